@@ -1,0 +1,17 @@
+pub mod Outcomes
+pub mod Runs
+pub mod Actions
+pub mod Steps
+pub mod DemandTwo
+pub mod Shape
+pub mod Values
+pub mod Kept
+pub mod Bounds
+pub mod Flags
+pub mod Good
+pub mod Operands
+pub mod Queries
+pub mod Fire
+pub mod Exec
+pub mod Fresh
+pub mod Calls

@@ -1,0 +1,14 @@
+pub mod Sweep
+pub mod Links
+pub mod Keeps
+pub mod Turns
+pub mod After
+pub mod Faithful
+pub mod Agree
+pub mod Initial
+pub mod History
+pub mod Count
+pub mod Pass
+pub mod Formed
+pub mod Deletion
+pub mod Accounted

@@ -1,0 +1,10 @@
+pub mod Tests
+pub mod Range
+pub mod RoundTrip
+pub mod WellFormed
+pub mod Rules
+pub mod Accepted
+pub mod Parts
+pub mod Scanned
+pub mod Lawful
+pub mod Rows

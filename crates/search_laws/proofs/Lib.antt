@@ -1,0 +1,4 @@
+pub mod Fits
+pub mod Search
+pub mod Order
+pub mod Exact
