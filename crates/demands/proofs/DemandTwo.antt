@@ -104,7 +104,7 @@ not-fired-exec program c (q ∷ qs) = at (remainder program q)
         (λ e. after-done NotFired _ (omega arith))
 
 -- the other calls
-abbrev Called : Log → Type 0
+abbrev pub Called : Log → Type 0
 Called L = L .did ≡ called
 
 called-withdraw : (ts : List ℕ) (L : Log) → Called L → Called (withdraw ts L)
@@ -116,7 +116,7 @@ called-withdraw (t ∷ ts) L e = called-withdraw ts (withdraw-if (atom-alive (L 
     at true = e
     at false = e
 
-called-rows : (program : List Row) (rs : List Reading) (L : Log) → Called L → After Called (sense-rows program rs L)
+pub called-rows : (program : List Row) (rs : List Reading) (L : Log) → Called L → After Called (sense-rows program rs L)
 unfolding sense-rows sense-row make-atom
 called-rows program [] L e = after-done Called _ e
 called-rows program (r ∷ rs) L e = after-then Called Called (sense-row program r L) (sense-rows program rs)

@@ -2,7 +2,7 @@
 use mathlib.Core.Path.{_≡_, refl, sym, ap, _∙_, subst}
 use mathlib.Core.Bool.{Bool, true, false}
 use mathlib.Core.Logic.{⊎-elim}
-use mathlib.Core.List.{List, [], _∷_, _++_}
+use mathlib.Core.List.{List, [], _∷_, _++_, map}
 use Rattle.lists.specs.Lists.{In, first, later, put, keep, Pairs, bind}
 use Rattle.lists.proofs.Lists.{in-nil, in-left, in-right, in-append, pairs-append}
 
@@ -42,3 +42,8 @@ module _ {A B : Type 0} where
   pairs-bind R f [] h k = tt
   pairs-bind R f (x ∷ l) h k = pairs-append R (f x) (bind l f) (h x (first refl)) (pairs-bind R f l (λ y i. h y (later i)) (k .1))
       (λ u i v j. let r = bind-in f l j in k .0 (r .0) (r .1) u i v (r .2))
+
+  -- alike on each element, alike on the list
+  pub map-same : (f g : A → B) (l : List A) → ((x : A) → f x ≡ g x) → map f l ≡ map g l
+  map-same f g [] h = refl
+  map-same f g (x ∷ l) h = rw (h x, map-same f g l h)

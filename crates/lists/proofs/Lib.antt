@@ -6,3 +6,5 @@ pub mod Splits
 pub mod RisingSet
 pub mod Cuts
 pub mod Tables
+pub mod Bits
+pub mod Counted

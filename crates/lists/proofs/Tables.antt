@@ -11,7 +11,7 @@ use lib.ListN.{length, getD, drop, set, length-set, length-append, List·getD-ap
 use lib.Seq.{getD-set-same, getD-set-other, ext-getD, getD-at, drop-cons, drop-length}
 use borrow.Author.Tests.{eq-eqb, ne-eqb, eqb-true, eqb-false, ltb-true, ltb-false}
 use Rattle.lists.specs.Lists.{if_then_else_, put, keep, In, first, later, Pairs, member}
-use Rattle.lists.specs.Tables.{tabulate, keep-by, index-of}
+use Rattle.lists.specs.Tables.{tabulate, keep-by, index-of, trim-cons, trimmed}
 use Rattle.lists.proofs.Lists.{test, map-append, in-cast, out-member, in-member}
 use Rattle.lists.proofs.Bind.{put-append}
 use Rattle.lists.proofs.Splits.{keep-snoc}
@@ -31,6 +31,12 @@ module _ {A : Type 0} where
   get-in [] j d h = absurd (omega arith)
   get-in (x ∷ l) zero d h = first refl
   get-in (x ∷ l) (suc j) d h = later (get-in l j d (omega arith))
+
+  -- what is read past the end does not matter within
+  pub get-within : (l : List A) (j : ℕ) (d e : A) → j < length l → getD l j d ≡ getD l j e
+  get-within [] j d e h = absurd (omega arith)
+  get-within (x ∷ l) zero d e h = refl
+  get-within (x ∷ l) (suc j) d e h = get-within l j d e (omega arith)
 
   pub in-get : {l : List A} {x : A} (d : A) → In x l → (k : ℕ) × (k < length l) × (getD l k d ≡ x)
   in-get d (first e) = (0, omega arith, sym e)
@@ -60,6 +66,12 @@ module _ {A : Type 0} where
       (λ (p : i ≢ n). let q : i < n = omega arith in List·getD-append (tabulate n f) (f n ∷ []) d i (omega (arith, tabulate-length n f)) ∙ tabulate-at n f i d q)
       (equal-or-not i n)
 
+  -- a list by its own places
+  pub tabulate-get : (n : ℕ) (l : List A) (d : A) → length l ≡ n → tabulate n (λ (k : ℕ). getD l k d) ≡ l
+  tabulate-get n l d e =
+      let z : length (tabulate n (λ (k : ℕ). getD l k d)) ≡ n = tabulate-length n (λ (k : ℕ). getD l k d) in
+      ext-getD d (tabulate n (λ (k : ℕ). getD l k d)) l (z ∙ sym e) (λ k h. tabulate-at n (λ (k : ℕ). getD l k d) k d (omega arith))
+
   -- what stood below n stands, and x stands at n
   pub tabulate-append : (n : ℕ) (f g : ℕ → A) (x : A) → ((k : ℕ) → k < n → g k ≡ f k) → g n ≡ x → tabulate (n + 1) g ≡ tabulate n f ++ (x ∷ [])
   tabulate-append n f g x e p = rw (add-one, tabulate-same n g f e, p)
@@ -86,6 +98,16 @@ module _ {A : Type 0} where
 
   pub tabulate-end : (n : ℕ) (f : ℕ → A) → drop n (tabulate n f) ≡ []
   tabulate-end n f = ap (λ (k : ℕ). drop k (tabulate n f)) (sym (tabulate-length n f)) ∙ drop-length (tabulate n f)
+
+-- where keys rise, two places have two keys
+pub keys-differ : {A : Type 0} (key : A → ℕ) (n : ℕ) (f : ℕ → A) → Pairs (λ (x y : A). key x < key y) (tabulate n f) → (i k : ℕ) → i < n → k < n → i ≢ k → key (f i) ≢ key (f k)
+keys-differ {A} key n f rise i k hi hk ne e = ⊎-elim (λ (h : i < k). let q = before i k h hk in omega arith) (λ (h : k < i). let q = before k i h hi in omega arith) (less-or-more i k ne)
+  where
+    before : (i j : ℕ) → i < j → j < n → key (f i) < key (f j)
+    before i j h k =
+        let z : length (tabulate n f) ≡ n = tabulate-length n f in
+        let q = pairs-get (λ (x y : A). key x < key y) (tabulate n f) (f 0) i j rise h (omega arith) in
+        rw (tabulate-at n f i (f 0) (omega arith), tabulate-at n f j (f 0) k) at q
 
 -- a function of each element
 pub tabulate-map : {A B : Type 0} (f : A → B) (n : ℕ) (g : ℕ → A) → tabulate n (λ (k : ℕ). f (g k)) ≡ map f (tabulate n g)
@@ -116,6 +138,11 @@ module _ {A : Type 0} where
       let el : length (tabulate n f) ≡ n = tabulate-length n f in
       rw (keep-by-snoc ms (tabulate n f) (f n) (omega arith), el, e n (omega arith), keep-by-test ms t f n (omega arith) (λ k q. e k (omega arith)))
       (sym (keep-snoc t (tabulate n f) (f n)))
+
+-- functions that agree on the elements
+pub map-same-in : {A B : Type 0} (f g : A → B) (l : List A) → ((x : A) → In x l → f x ≡ g x) → map f l ≡ map g l
+map-same-in f g [] e = refl
+map-same-in f g (x ∷ l) e = rw (e x (first refl), map-same-in f g l (λ y i. e y (later i)))
 
 pub map-keep-by : {A B : Type 0} (f : A → B) (ms : List Bool) (l : List A) → map f (keep-by ms l) ≡ keep-by ms (map f l)
 map-keep-by f [] l = refl
@@ -178,3 +205,38 @@ index-member x l = ⊎-elim
 -- in a rising list each number stands once
 pub index-at : (l : List ℕ) (k : ℕ) → Pairs (λ (x y : ℕ). x < y) l → k < length l → k ≡ index-of (getD l k 0) l
 index-at l k rises h = index-is (getD l k 0) l k (omega arith) (λ j p e. let q = pairs-get (λ (x y : ℕ). x < y) l 0 j k rises p h in omega arith) (λ p. refl)
+
+-- the same for numbers given by their places
+pub index-tabulated : (n : ℕ) (f : ℕ → ℕ) (x : ℕ) → index-of x (tabulate n f) < n → f (index-of x (tabulate n f)) ≡ x
+index-tabulated n f x h =
+    let z : length (tabulate n f) ≡ n = tabulate-length n f in
+    sym (tabulate-at n f (index-of x (tabulate n f)) 0 h) ∙ index-found x (tabulate n f) (omega arith)
+
+pub index-tabulated-is : (n : ℕ) (f : ℕ → ℕ) (x r : ℕ) → r ≤ n → ((j : ℕ) → j < r → f j ≡ x → ⊥) → (r < n → f r ≡ x) → r ≡ index-of x (tabulate n f)
+index-tabulated-is n f x r h none here =
+    let z : length (tabulate n f) ≡ n = tabulate-length n f in
+    index-is x (tabulate n f) r (omega arith)
+    (λ j p e. none j p (sym (tabulate-at n f j 0 (omega arith)) ∙ e))
+    (λ p. let q : r < n = omega arith in tabulate-at n f r 0 q ∙ here q)
+
+pub index-missing : (n : ℕ) (f : ℕ → ℕ) (x : ℕ) → n ≤ index-of x (tabulate n f) → (k : ℕ) → k < n → f k ≢ x
+index-missing n f x h k hk e =
+    let z : length (tabulate n f) ≡ n = tabulate-length n f in
+    let g = index-first x (tabulate n f) k (omega arith) (tabulate-at n f k 0 hk ∙ e) in
+    omega arith
+
+-- the zeros at the end of a list tell its length alone
+trim-cons-at : (x k : ℕ) (l : List ℕ) → getD (trim-cons x l) k 0 ≡ getD (x ∷ l) k 0
+trim-cons-at zero zero [] = refl
+trim-cons-at zero (suc k) [] = refl
+trim-cons-at zero k (y ∷ l) = refl
+trim-cons-at (suc x) k l = refl
+
+pub trimmed-at : (l : List ℕ) (k : ℕ) → getD (trimmed l) k 0 ≡ getD l k 0
+unfolding trimmed
+trimmed-at [] k = refl
+trimmed-at (x ∷ l) zero = trim-cons-at x 0 (trimmed l)
+trimmed-at (x ∷ l) (suc k) = trim-cons-at x (suc k) (trimmed l) ∙ trimmed-at l k
+
+pub trimmed-same : (l m : List ℕ) → length l ≡ length m → trimmed l ≡ trimmed m → l ≡ m
+trimmed-same l m h e = ext-getD 0 l m h (λ k p. sym (trimmed-at l k) ∙ ap (λ (z : List ℕ). getD z k 0) e ∙ trimmed-at m k)

@@ -21,3 +21,14 @@ module _ {A : Type 0} where
 unfoldable pub index-of : ℕ → List ℕ → ℕ
 index-of x [] = 0
 index-of x (y ∷ l) = if eqb x y then 0 else suc (index-of x l)
+
+-- x in front of l, unless nothing but zeros would follow
+abbrev pub trim-cons : ℕ → List ℕ → List ℕ
+trim-cons zero [] = []
+trim-cons zero (y ∷ l) = zero ∷ y ∷ l
+trim-cons (suc x) l = suc x ∷ l
+
+-- a list without the zeros at its end
+unfoldable pub trimmed : List ℕ → List ℕ
+trimmed [] = []
+trimmed (x ∷ l) = trim-cons x (trimmed l)

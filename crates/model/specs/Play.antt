@@ -1,6 +1,6 @@
 -- Calls in turn on a loaded program, and what they leave, as text: the form of the tables in Keys and Cases.
--- The first line of what the last call leaves: number, phase, cycle, next id, waiting, made, gone; after a run also why it stopped
--- (0 phase 0, 1 waiting, 2 the limit, 3 a refused step) and how many steps it took. Then the live instances by id: an atom's kind 1,
+-- The first line is what the last call answered: number, made, gone, and what a step did (`did-numbers`), or after a run the steps taken
+-- and why it stopped (`stop-numbers`). The second line: phase, cycle, next id, waiting. Then the live instances by id: an atom's kind 1,
 -- id, p, a, b and 0; a plan's kind 2, id, set, rule, steps left, subgoal, flags and justifications.
 use Prim.Native.Nat.{ℕ}
 use Prim.Native.String.{String}

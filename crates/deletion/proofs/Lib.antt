@@ -1,0 +1,5 @@
+pub mod Marks
+pub mod Pass
+pub mod Unlinked
+pub mod Kept
+pub mod Removed

@@ -1,0 +1,106 @@
+-- The words of a plan: its four justifications against the list that they hold, its eight values.
+use mathlib.Core.Path.{_≡_, refl, sym, ap, _∙_}
+use mathlib.Core.Bool.{Bool, true, false, _&&_, and-true, and-false}
+use mathlib.Core.List.{List, [], _∷_}
+use Prim.Native.Nat.{ℕ, zero, suc, _-_, _≤_, _<_}
+use native.Mathlib.Omega.{arith}
+use lib.Dec.{leb, ltb}
+use lib.ListN.{length, getD, take, drop, length-drop, length-map}
+use lib.Seq.{length-take-le}
+use borrow.Author.Tests.{ne-eqb, le-leb, lt-ltb, le-ltb}
+use Rattle.lists.specs.Lists.{is-empty, every, rises}
+use Rattle.lists.specs.Tables.{trim-cons, trimmed}
+use Rattle.lists.proofs.Tables.{tabulate-length}
+use Rattle.lists.proofs.Counted.{trimmed-few, trimmed-four}
+use Rattle.table.specs.Rows.{row}
+use Rattle.table.proofs.Rows.{row-long}
+use Rattle.model.specs.declared.Atom.{Atom}
+use Rattle.state.specs.View.{atom-at, plan-at, atoms-of, atom-ids-of}
+use Rattle.formed_plans.specs.Plans.{may-follow, justified}
+
+middle-swap : (a b c d : Bool) → (a && b) && (c && d) ≡ (a && c) && (b && d)
+middle-swap true true c d = refl
+middle-swap true false true d = refl
+middle-swap true false false d = refl
+middle-swap false b c d = refl
+
+left-swap : (a b c : Bool) → a && (b && c) ≡ b && (a && c)
+left-swap true b c = refl
+left-swap false true c = refl
+left-swap false false c = refl
+
+module _ (alive : ℕ → Bool) where
+  -- each word may follow the one before it
+  abbrev chained : ℕ → List ℕ → Bool
+  chained i [] = true
+  chained i (j ∷ l) = may-follow alive i j && chained j l
+
+  -- behind a 0 stand zeros alone
+  none-follow : (l : List ℕ) → chained 0 l ≡ is-empty (trimmed l)
+  unfolding trimmed
+  none-follow [] = refl
+  none-follow (zero ∷ l) = none-follow l ∙ at (trimmed l)
+    where
+      at : (t : List ℕ) → is-empty t ≡ is-empty (trim-cons 0 t)
+      at [] = refl
+      at (y ∷ t) = refl
+  none-follow (suc j ∷ l) = let e = ne-eqb (suc j) 0 (λ q. omega arith) in rw e
+
+  chained-is : (i : ℕ) (l : List ℕ) → chained (suc i) l ≡ rises (suc i ∷ trimmed l) && every alive (trimmed l)
+  unfolding trimmed rises every
+  chained-is i [] = refl
+  chained-is i (zero ∷ l) = none-follow l ∙ at (trimmed l)
+    where
+      at : (t : List ℕ) → is-empty t ≡ rises (suc i ∷ trim-cons 0 t) && every alive (trim-cons 0 t)
+      at [] = refl
+      at (y ∷ t) = let e : ltb (suc i) 0 ≡ false = le-ltb (suc i) 0 (omega arith) in rw e
+  chained-is i (suc j ∷ l) =
+      let e = ne-eqb (suc j) 0 (λ q. omega arith) in
+      let h : ltb 0 (suc i) ≡ true = lt-ltb 0 (suc i) (omega arith) in
+      rw (e, h, chained-is j l) (middle-swap (ltb (suc i) (suc j)) (alive (suc j)) (rises (suc j ∷ trimmed l)) (every alive (trimmed l)))
+
+  four-justified : alive 0 ≡ false → (j : ℕ) (l : List ℕ) → length l ≤ 3 →
+      alive j && chained j l ≡ justified alive (trimmed (j ∷ l))
+  unfolding trimmed rises every
+  four-justified z zero l h = rw z (at (trimmed l))
+    where
+      at : (t : List ℕ) → false ≡ justified alive (trim-cons 0 t)
+      at [] = refl
+      at (y ∷ t) = simp (z, and-false)
+  four-justified z (suc j) l h =
+      let s = trimmed-few l in
+      let a : leb 1 (suc (length (trimmed l))) ≡ true = le-leb 1 (suc (length (trimmed l))) (omega arith) in
+      let b : leb (suc (length (trimmed l))) 4 ≡ true = le-leb (suc (length (trimmed l))) 4 (omega arith) in
+      rw (a, b, chained-is j l) (left-swap (alive (suc j)) (rises (suc j ∷ trimmed l)) (every alive (trimmed l)))
+
+-- the words of a plan
+module _ (words : List ℕ) (k : ℕ) (long : length words ≡ 2432) (few : k < 64) where
+  row-18 : length (row 18 (drop 1280 words) k) ≡ 18
+  row-18 = let z : length (drop 1280 words) ≡ length words - 1280 = length-drop 1280 words in row-long 18 (drop 1280 words) k (omega arith)
+
+  pub values-long : length (plan-at words k .values) ≡ 8
+  unfolding plan-at
+  values-long =
+      let z = row-18 in
+      let d = length-drop 10 (row 18 (drop 1280 words) k) in
+      length-take-le 8 (drop 10 (row 18 (drop 1280 words) k)) (omega arith)
+
+  justification-words : let js = plan-at words k .justifications in trimmed (getD js 0 0 ∷ getD js 1 0 ∷ getD js 2 0 ∷ getD js 3 0 ∷ []) ≡ js
+  unfolding plan-at
+  justification-words =
+      let z = row-18 in
+      let d = length-drop 6 (row 18 (drop 1280 words) k) in
+      trimmed-four (take 4 (drop 6 (row 18 (drop 1280 words) k))) (length-take-le 4 (drop 6 (row 18 (drop 1280 words) k)) (omega arith))
+
+  pub words-justified : (alive : ℕ → Bool) → alive 0 ≡ false →
+      let js = plan-at words k .justifications in
+      alive (getD js 0 0) && (may-follow alive (getD js 0 0) (getD js 1 0) && (may-follow alive (getD js 1 0) (getD js 2 0) && may-follow alive (getD js 2 0) (getD js 3 0))) ≡ justified alive js
+  words-justified alive z =
+      let js = plan-at words k .justifications in
+      ap (λ (b : Bool). alive (getD js 0 0) && (may-follow alive (getD js 0 0) (getD js 1 0) && (may-follow alive (getD js 1 0) (getD js 2 0) && b))) (sym (and-true (may-follow alive (getD js 2 0) (getD js 3 0))))
+      ∙ four-justified alive z (getD js 0 0) (getD js 1 0 ∷ getD js 2 0 ∷ getD js 3 0 ∷ []) (omega arith)
+      ∙ ap (justified alive) justification-words
+
+-- as many ids as atoms
+pub atom-ids-long : (words : List ℕ) (n : ℕ) → length (atom-ids-of n words) ≡ n
+atom-ids-long words n = length-map (atoms-of n words) (λ (x : Atom). x .id) ∙ tabulate-length n (atom-at words)

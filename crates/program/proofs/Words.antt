@@ -1,0 +1,76 @@
+-- Rows in words: one row after the other, and the words of rows read back.
+use mathlib.Core.Path.{_≡_, refl, ap, sym, _∙_}
+use mathlib.Core.List.{List, [], _∷_, _++_}
+use Prim.Native.Nat.{ℕ, suc, _+_, _-_, _*_, _/_, _≤_, _<_}
+use native.Mathlib.Omega.{arith}
+use native.Mathlib.Nat.{div-mul-le-self}
+use lib.ListN.{length, set, take, drop, length-map, length-append}
+use lib.Seq.{sets, sets-eq, take-at, drop-at, drop-drop}
+use Rattle.lists.specs.Lists.{count-up}
+use Rattle.lists.proofs.Cuts.{count-up-next, count-up-none}
+use Rattle.lists.proofs.Bind.{bind-append}
+use Rattle.lists.proofs.Tests.{length-count-up}
+use Rattle.model.specs.declared.Row.{Row}
+use Rattle.program.specs.Rows.{row-at, rows-from, rows-of, row-words, words-of}
+
+module _ (words : List ℕ) where
+  pub rows-next : (k n : ℕ) → k < n → rows-from words k (n - k) ≡ row-at words k ∷ rows-from words (k + 1) (n - (k + 1))
+  rows-next k n h = rw (count-up-next k n h)
+
+  pub rows-none : (k n : ℕ) → n ≤ k → rows-from words k (n - k) ≡ []
+  rows-none k n h = rw (count-up-none k n h)
+
+  pub length-rows-of : length (rows-of words) ≡ length words / 8
+  unfolding rows-of
+  length-rows-of = length-map (count-up 0 (length words / 8)) (row-at words) ∙ length-count-up 0 (length words / 8)
+
+  -- a row that stands there stands in the words
+  pub row-inside : (k : ℕ) → k < length words / 8 → k * 8 + 8 ≤ length words
+  row-inside k h = let d = div-mul-le-self (length words) 8 in omega arith
+
+-- the words of rows
+pub length-words : (rows : List Row) → length (words-of rows) ≡ length rows * 8
+unfolding words-of row-words
+length-words [] = refl
+length-words (r ∷ rows) = let h = length-words rows in omega arith
+
+pub words-snoc : (rows : List Row) (r : Row) → words-of (rows ++ (r ∷ [])) ≡ words-of rows ++ row-words r
+unfolding words-of row-words
+words-snoc rows r = bind-append row-words rows (r ∷ [])
+
+-- eight stores are the words of a row in a run
+pub stores : (l : List ℕ) (k : ℕ) (r : Row) →
+    set (set (set (set (set (set (set (set l k (r .set)) (k + 1) (r .rule)) (k + 2) (r .part)) (k + 3) (r .op)) (k + 4) (r .i)) (k + 5) (r .p)) (k + 6) (r .a)) (k + 7) (r .b)
+    ≡ sets l k (row-words r)
+unfolding row-words
+stores l k r =
+    let e₁ : suc k ≡ k + 1 = omega arith in
+    let e₂ : suc (k + 1) ≡ k + 2 = omega arith in
+    let e₃ : suc (k + 2) ≡ k + 3 = omega arith in
+    let e₄ : suc (k + 3) ≡ k + 4 = omega arith in
+    let e₅ : suc (k + 4) ≡ k + 5 = omega arith in
+    let e₆ : suc (k + 5) ≡ k + 6 = omega arith in
+    let e₇ : suc (k + 6) ≡ k + 7 = omega arith in
+    rw (e₁, e₂, e₃, e₄, e₅, e₆, e₇)
+
+eight : (r : Row) → length (row-words r) ≡ 8
+unfolding row-words
+eight r = refl
+
+-- rows stand first in the words, and one more behind them
+module _ (lent : List ℕ) (rows : List Row) where
+  abbrev with-rows : List ℕ
+  with-rows = words-of rows ++ drop (length rows * 8) lent
+
+  pub store-row : (r : Row) → length rows * 8 + 8 ≤ length with-rows →
+      sets with-rows (length rows * 8) (row-words r) ≡ words-of (rows ++ (r ∷ [])) ++ drop (length (rows ++ (r ∷ [])) * 8) lent
+  store-row r h =
+      let n = length-words rows in
+      let one = eight r in
+      let front : take (length rows * 8) with-rows ≡ words-of rows = take-at (words-of rows) (drop (length rows * 8) lent) (length rows * 8) n in
+      let back : drop (length rows * 8) with-rows ≡ drop (length rows * 8) lent = drop-at (words-of rows) (drop (length rows * 8) lent) (length rows * 8) n in
+      let rest : drop (length rows * 8 + length (row-words r)) with-rows ≡ drop (length rows * 8 + length (row-words r)) lent
+      = sym (drop-drop (length (row-words r)) (length rows * 8) with-rows) ∙ ap (drop (length (row-words r))) back ∙ drop-drop (length (row-words r)) (length rows * 8) lent in
+      let next : length (rows ++ (r ∷ [])) * 8 ≡ length rows * 8 + length (row-words r) = rw (length-append, one) (omega arith) in
+      sets-eq (row-words r) with-rows (length rows * 8) (rw one h)
+      ∙ rw (front, rest, words-snoc rows r, next)

@@ -1,0 +1,136 @@
+// Programs: their rows in lent words, the test that they are well formed, and the load of a program text.
+use model::Row;
+use text::Line;
+ghost use mathlib.Core.Path.{_≡_};
+ghost use Prim.Native.Nat.{_+_, _*_, _≤_};
+ghost use lib.ListN.{length};
+ghost use lib.Seq.{sets};
+ghost use Rattle.program.specs.Rows.{row-at, row-words, program-formed};
+ghost use Rattle.program.specs.Loading.{seen, loading};
+
+// Row k of a program.
+pub fn row_at(words: &[u32], k: usize) -> Row
+    requires { ⌜ k * 8 + 8 ≤ length (now words) ⌝ }
+    ensures { λ r. ⌜ r ≡ row-at (now (words .entry)) k ⌝ }
+{
+    let at = k * 8;
+    Row {
+        set: words[at],
+        rule: words[at + 1],
+        part: words[at + 2],
+        op: words[at + 3],
+        i: words[at + 4],
+        p: words[at + 5],
+        a: words[at + 6],
+        b: words[at + 7],
+    }
+}
+
+// "A program is well formed when some text loads to it": refusal 1 of a program.
+pub fn well_formed(program: &[u32]) -> bool
+    ensures { λ b. ⌜ b ≡ program-formed (now (program .entry)) ⌝ }
+{
+    if program.len() % 8 != 0 {
+        return false;
+    }
+    let n = program.len() / 8;
+    let mut s = rows::at_first();
+    let mut k: usize = 0;
+    while k < n {
+        let r = row_at(program, k);
+        if !rows::in_range(r) {
+            return false;
+        }
+        let v = rows::take_row(s, r);
+        if v.number != 0 {
+            return false;
+        }
+        let scan = v.scan;
+        s = scan;
+        k += 1;
+    }
+    !rows::lacking(s)
+}
+
+// Accepted (number 0) with this many rows, or refused with this number and line.
+pub struct Loaded {
+    pub number: u32,
+    pub line: u32,
+    pub rows: u32,
+}
+
+fn refused(number: u32, line: u32) -> Loaded
+    ensures { λ r. ⌜ (r .number ≡ number) × (r .line ≡ line) × (r .rows ≡ 0) ⌝ }
+{
+    Loaded {
+        number,
+        line,
+        rows: 0,
+    }
+}
+
+// The lent words by value: of an array that a call returns the length is known.
+fn copied(words: &[u32; 4096]) -> [u32; 4096]
+    ensures { λ r. ⌜ r ≡ now (words .entry) ⌝ }
+{
+    *words
+}
+
+// Row k becomes r.
+fn put_row(words: &mut [u32; 4096], k: usize, r: Row)
+    requires { ⌜ k * 8 + 8 ≤ 4096 ⌝ }
+    ensures { λ _. ⌜ now (words .exit) ≡ sets (now (words .entry)) (k * 8) (row-words r) ⌝ }
+{
+    let at = k * 8;
+    words[at] = r.set;
+    words[at + 1] = r.rule;
+    words[at + 2] = r.part;
+    words[at + 3] = r.op;
+    words[at + 4] = r.i;
+    words[at + 5] = r.p;
+    words[at + 6] = r.a;
+    words[at + 7] = r.b;
+}
+
+// "Load tests lines in order": the program of a text, or the first refusal.
+pub fn load(text: &[u8], program: &mut [u32; 4096]) -> Loaded
+    ensures { λ r. ⌜ seen r (now (program .exit)) ≡ loading (now (text .entry)) (now (program .entry)) ⌝ }
+{
+    let first = text::newline(text, 0);
+    if text.len() <= first {
+        return refused(2, 1);
+    }
+    if !text::is_names(&text[..first]) {
+        return refused(2, 1);
+    }
+    let mut words = copied(program);
+    let mut s = rows::at_first();
+    let mut at = first + 1;
+    while at < text.len() {
+        let end = text::newline(text, at);
+        if text.len() <= end {
+            return refused(2, s.count + 2);
+        }
+        let Line::Whole(row) = text::read_row(&text[at..end]) else {
+            return refused(2, s.count + 2);
+        };
+        let v = rows::take_row(s, row);
+        if v.number != 0 {
+            return refused(v.number, v.line);
+        }
+        let n = s.count as usize;
+        put_row(&mut words, n, row);
+        let scan = v.scan;
+        s = scan;
+        at = end + 1;
+    }
+    if rows::lacking(s) {
+        return refused(3, s.count + 1);
+    }
+    *program = words;
+    Loaded {
+        number: 0,
+        line: 0,
+        rows: s.count,
+    }
+}

@@ -1,0 +1,210 @@
+// The work of sense, in place: readings added and withdrawn, row by row.
+use deletion::Removal;
+use state::Scalars;
+ghost use mathlib.Core.Path.{_≡_};
+ghost use mathlib.Core.Bool.{true};
+ghost use Prim.Native.Nat.{_+_, _-_, _*_, _/_, _<_, _≤_};
+ghost use lib.ListN.{length};
+ghost use Rattle.lists.specs.Lists.{every};
+ghost use Rattle.program.specs.Rows.{row-at, rows-of};
+ghost use Rattle.state.specs.View.{atom-at, config-of};
+ghost use Rattle.model.specs.Calls.{in-range as is-in-range, applies as does-apply, taken-as};
+ghost use Rattle.sensing.specs.Sensing.{reading-of, reading-at, equal-to, readings-from, Ready, Withdraws, atom-bar, SensesRow, SensesRows};
+
+// A row of sense.
+pub struct Reading {
+    pub sign: u32,
+    pub p: u32,
+    pub a: u32,
+    pub b: u32,
+}
+
+// What a work leaves: a refusal's number or 0, the scalars, how many instances went.
+pub struct Work {
+    pub scalars: Scalars,
+    pub gone: u32,
+    pub number: u32,
+}
+
+// The number that an operand stands for.
+fn constant(x: u32) -> u32
+    ensures { λ r. ⌜ r ≡ x - 9 ⌝ }
+{
+    if x < 9 {
+        return 0;
+    }
+    x - 9
+}
+
+// The ceiling in row k applies to the reading.
+fn applies(program: &[u32], k: usize, reading: Reading) -> bool
+    requires { ⌜ k * 8 + 8 ≤ length (now program) ⌝ }
+    ensures { λ r. ⌜ r ≡ does-apply (reading-of reading) (row-at (now (program .entry)) k) ⌝ }
+{
+    let at = k * 8;
+    let set = program[at];
+    let op = program[at + 3];
+    let p = program[at + 5];
+    let a = constant(program[at + 6]);
+    (set == 0) & ((op == 40) & ((p == reading.p) & (a <= reading.b)))
+}
+
+// "a sensed p whose second argument is at least a (1 to 65,535) is taken as predicate b (1 to 255), once"
+pub fn taken_as(program: &[u32], reading: Reading) -> u32
+    ensures { λ r. ⌜ r ≡ taken-as (rows-of (now (program .entry))) (reading-of reading) ⌝ }
+{
+    let n = program.len() / 8;
+    let mut k: usize = 0;
+    while k < n {
+        if applies(program, k, reading) {
+            return constant(program[k * 8 + 7]);
+        }
+        k += 1;
+    }
+    reading.p
+}
+
+// Atom k is p(a, b).
+fn is_equal(words: &[u32], k: usize, p: u32, a: u32, b: u32) -> bool
+    requires { ⌜ (length (now words) ≡ 2432) × (k < 256) ⌝ }
+    ensures { λ r. ⌜ r ≡ equal-to p a b (atom-at (now (words .entry)) k) ⌝ }
+{
+    let x = state::atom_at(words, k);
+    (x.p == p) & ((x.a == a) & (x.b == b))
+}
+
+// "A withdrawal deletes each live equal atom, lowest id first."
+pub fn withdraw(words: &mut [u32], scalars: Scalars, p: u32, a: u32, b: u32) -> Removal
+    requires { ⌜ Ready (now words) scalars ⌝ }
+    ensures { λ r. ⌜ Withdraws p a b (config-of (now (words .entry)) scalars) (config-of (now (words .exit)) (r .scalars)) (r .gone) ⌝ }
+    ensures ready { λ r. ⌜ Ready (now (words .exit)) (r .scalars) × (r .gone ≤ 320) ⌝ }
+{
+    let mut s = scalars;
+    let mut gone: u32 = 0;
+    let mut k: usize = 0;
+    while k < s.atoms as usize {
+        if is_equal(words, k, p, a, b) {
+            let x = state::atom_at(words, k);
+            let r = deletion::remove(words, s, x.id);
+            let left = r.scalars;
+            s = left;
+            gone += r.gone;
+        } else {
+            k += 1;
+        }
+    }
+    Removal { scalars: s, gone }
+}
+
+// "one more needed": 8 before 9, or 0.
+pub fn room_for_atom(scalars: Scalars) -> u32
+    ensures { λ r. ⌜ r ≡ atom-bar (scalars .next) (scalars .atoms) ⌝ }
+{
+    if scalars.next == 65536 {
+        return 8;
+    }
+    if 256 <= scalars.atoms {
+        return 9;
+    }
+    0
+}
+
+// One row of sense.
+pub fn sense_row(program: &[u32], words: &mut [u32], scalars: Scalars, reading: Reading) -> Work
+    requires { ⌜ Ready (now words) scalars ⌝ }
+    ensures { λ r. ⌜ SensesRow (rows-of (now (program .entry))) (reading-of reading) (config-of (now (words .entry)) scalars) (r .number) (config-of (now (words .exit)) (r .scalars)) (r .gone) ⌝ }
+    ensures ready { λ r. ⌜ (r .number ≡ 0 → Ready (now (words .exit)) (r .scalars)) × (r .gone ≤ 320) ⌝ }
+{
+    let p = taken_as(program, reading);
+    if reading.sign == 1 {
+        let bar = room_for_atom(scalars);
+        if bar != 0 {
+            return Work {
+                scalars,
+                gone: 0,
+                number: bar,
+            };
+        }
+        let made = state::append_atom(words, scalars, p, reading.a, reading.b);
+        return Work {
+            scalars: made,
+            gone: 0,
+            number: 0,
+        };
+    }
+    let r = withdraw(words, scalars, p, reading.a, reading.b);
+    let left = r.scalars;
+    Work {
+        scalars: left,
+        gone: r.gone,
+        number: 0,
+    }
+}
+
+// Row k of sense.
+fn reading_at(rows: &[u32], k: usize) -> Reading
+    requires { ⌜ k * 4 + 4 ≤ length (now rows) ⌝ }
+    ensures { λ r. ⌜ reading-of r ≡ reading-at (now (rows .entry)) k ⌝ }
+{
+    let at = k * 4;
+    Reading {
+        sign: rows[at],
+        p: rows[at + 1],
+        a: rows[at + 2],
+        b: rows[at + 3],
+    }
+}
+
+// "Rows in order": all rows, or the refusal that one of them meets.
+pub fn sense_rows(program: &[u32], words: &mut [u32], scalars: Scalars, rows: &[u32]) -> Work
+    requires { ⌜ Ready (now words) scalars × (length (now rows) ≤ 256) ⌝ }
+    ensures { λ r. ⌜ SensesRows (rows-of (now (program .entry))) (readings-from (now (rows .entry)) 0 (length (now (rows .entry)) / 4)) (config-of (now (words .entry)) scalars) (r .number) (config-of (now (words .exit)) (r .scalars)) (r .gone) ⌝ }
+    ensures ready { λ r. ⌜ (r .number ≡ 0 → Ready (now (words .exit)) (r .scalars)) ⌝ }
+{
+    let n = rows.len() / 4;
+    let mut s = scalars;
+    let mut gone: u32 = 0;
+    let mut k: usize = 0;
+    while k < n {
+        let w = sense_row(program, words, s, reading_at(rows, k));
+        let left = w.scalars;
+        if w.number != 0 {
+            return Work {
+                scalars: left,
+                gone: 0,
+                number: w.number,
+            };
+        }
+        s = left;
+        gone += w.gone;
+        k += 1;
+    }
+    Work {
+        scalars: s,
+        gone,
+        number: 0,
+    }
+}
+
+// "sign (1 add, 2 withdraw), p, a, b" in their ranges.
+fn in_range(r: Reading) -> bool
+    ensures { λ b. ⌜ b ≡ is-in-range (reading-of r) ⌝ }
+{
+    ((1 <= r.sign) & (r.sign <= 2))
+        & (((1 <= r.p) & (r.p <= 255)) & ((r.a <= 65535) & (r.b <= 65535)))
+}
+
+// "sense row .. out of range": every row is in range.
+pub fn rows_in_range(rows: &[u32]) -> bool
+    ensures { λ r. ⌜ r ≡ every is-in-range (readings-from (now (rows .entry)) 0 (length (now (rows .entry)) / 4)) ⌝ }
+{
+    let n = rows.len() / 4;
+    let mut k: usize = 0;
+    while k < n {
+        if !in_range(reading_at(rows, k)) {
+            return false;
+        }
+        k += 1;
+    }
+    true
+}

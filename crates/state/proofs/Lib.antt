@@ -1,0 +1,5 @@
+pub mod Flags
+pub mod View
+pub mod Made
+pub mod Changed
+pub mod Live

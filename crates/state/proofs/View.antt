@@ -1,0 +1,106 @@
+-- Laws of what the words say: atoms and plans by their places, their columns, their ids.
+use mathlib.Core.Path.{_≡_, refl, ap, sym, _∙_}
+use mathlib.Core.List.{List, [], _∷_, _++_}
+use Prim.Native.Nat.{ℕ, _+_, _-_, _*_, _<_}
+use native.Mathlib.Omega.{arith}
+use lib.ListN.{length, take, drop, getD, length-drop, take-append-drop}
+use lib.Seq.{getD-drop, getD-take, length-take-le, take-all}
+use Rattle.lists.specs.Lists.{Pairs}
+use Rattle.lists.proofs.Lists.{pairs-map}
+use Rattle.lists.proofs.Tables.{get-within, tabulate-map, trimmed-at, trimmed-same}
+use Rattle.table.specs.Rows.{row, key, keys}
+use Rattle.table.proofs.Rows.{row-at, row-long, key-row}
+use Rattle.model.specs.declared.Atom.{Atom}
+use Rattle.model.specs.Configuration.{Plan, no-value}
+use Rattle.state.specs.View.{plan-of, atom-at, plan-at, atoms-of, plans-of, atom-ids-of, plan-ids-of, AtomsRise, PlansRise, plan-word}
+
+pub atom-by-words : (l : List ℕ) (k : ℕ) →
+    _≡_ {A = Atom} (record { id = getD l (k * 5) 0; p = getD l (k * 5 + 1) 0; a = getD l (k * 5 + 2) 0; b = getD l (k * 5 + 3) 0; cycle = getD l (k * 5 + 4) 0 }) (atom-at l k)
+unfolding atom-at
+atom-by-words l k = cc (key-row 5 l k (omega arith), row-at 5 l k 1 (omega arith), row-at 5 l k 2 (omega arith), row-at 5 l k 3 (omega arith), row-at 5 l k 4 (omega arith))
+
+-- the columns of a plan
+pub plan-word-is : (l : List ℕ) (k column : ℕ) → column < 18 → getD l (1280 + (k * 18 + column)) 0 ≡ plan-word l k column
+plan-word-is l k column h = sym (row-at 18 (drop 1280 l) k column h ∙ getD-drop 1280 l (k * 18 + column) 0)
+
+module _ (l : List ℕ) (k : ℕ) where
+  pub plan-id-is : plan-word l k 0 ≡ plan-at l k .id
+  unfolding plan-at
+  plan-id-is = refl
+
+  pub plan-set-is : plan-word l k 1 ≡ plan-at l k .set
+  unfolding plan-at
+  plan-set-is = refl
+
+  pub plan-rule-is : plan-word l k 2 ≡ plan-at l k .rule
+  unfolding plan-at
+  plan-rule-is = refl
+
+  pub plan-left-is : plan-word l k 3 ≡ plan-at l k .left
+  unfolding plan-at
+  plan-left-is = refl
+
+  pub plan-flags-is : plan-word l k 4 ≡ plan-at l k .flags
+  unfolding plan-at
+  plan-flags-is = refl
+
+  pub plan-subgoal-is : plan-word l k 5 ≡ plan-at l k .subgoal
+  unfolding plan-at
+  plan-subgoal-is = refl
+
+  pub plan-justification-is : (j : ℕ) → j < 4 → plan-word l k (6 + j) ≡ getD (plan-at l k .justifications) j 0
+  unfolding plan-at
+  plan-justification-is j h =
+      let r = row 18 (drop 1280 l) k in
+      sym (trimmed-at (take 4 (drop 6 r)) j ∙ getD-take 4 (drop 6 r) j 0 h ∙ getD-drop 6 r j 0)
+
+  pub plan-value-is : (i : ℕ) → i < 8 → k < 64 → length l ≡ 2432 → plan-word l k (10 + i) ≡ getD (plan-at l k .values) i no-value
+  unfolding plan-at
+  plan-value-is i h hk long =
+      let r = row 18 (drop 1280 l) k in
+      let z : length (drop 1280 l) ≡ length l - 1280 = length-drop 1280 l in
+      let lr : length r ≡ 18 = row-long 18 (drop 1280 l) k (omega arith) in
+      let ld : length (drop 10 r) ≡ length r - 10 = length-drop 10 r in
+      let lv : length (take 8 (drop 10 r)) ≡ 8 = length-take-le 8 (drop 10 r) (omega arith) in
+      sym (getD-take 8 (drop 10 r) i 0 h ∙ getD-drop 10 r i 0) ∙ get-within (take 8 (drop 10 r)) i 0 no-value (omega arith)
+
+-- ids are the first words
+pub atom-keys : (n : ℕ) (l : List ℕ) → keys 5 n l ≡ atom-ids-of n l
+unfolding atom-at
+atom-keys n l = sym (tabulate-map key n (row 5 l)) ∙ tabulate-map (λ (x : Atom). x .id) n (atom-at l)
+
+pub plan-keys : (n : ℕ) (l : List ℕ) → keys 18 n (drop 1280 l) ≡ plan-ids-of n l
+unfolding plan-at
+plan-keys n l = sym (tabulate-map key n (row 18 (drop 1280 l))) ∙ tabulate-map (λ (q : Plan). q .id) n (plan-at l)
+
+pub atom-keys-rise : (n : ℕ) (l : List ℕ) → AtomsRise n l → Pairs (λ (x y : ℕ). x < y) (keys 5 n l)
+atom-keys-rise n l h = rw (atom-keys n l) (pairs-map (λ (x y : ℕ). x < y) (λ (x : Atom). x .id) (atoms-of n l) h)
+
+pub plan-keys-rise : (n : ℕ) (l : List ℕ) → PlansRise n l → Pairs (λ (x y : ℕ). x < y) (keys 18 n (drop 1280 l))
+plan-keys-rise n l h = rw (plan-keys n l) (pairs-map (λ (x y : ℕ). x < y) (λ (q : Plan). q .id) (plans-of n l) h)
+
+-- no place of a plan's words is unused: equal plans have equal words
+pub plan-words-same : (r t : List ℕ) → length r ≡ 18 → length t ≡ 18 → plan-of r ≡ plan-of t → r ≡ t
+plan-words-same r t hr ht e = apart r hr ∙ joined ∙ sym (apart t ht)
+  where
+    whole : Plan → List ℕ → List ℕ
+    whole q js = q .id ∷ q .set ∷ q .rule ∷ q .left ∷ q .flags ∷ q .subgoal ∷ js ++ q .values
+
+    apart : (r : List ℕ) → length r ≡ 18 → r ≡ whole (plan-of r) (take 4 (drop 6 r))
+    apart [] h = absurd (omega arith)
+    apart (a ∷ []) h = absurd (omega arith)
+    apart (a ∷ b ∷ []) h = absurd (omega arith)
+    apart (a ∷ b ∷ c ∷ []) h = absurd (omega arith)
+    apart (a ∷ b ∷ c ∷ d ∷ []) h = absurd (omega arith)
+    apart (a ∷ b ∷ c ∷ d ∷ x ∷ []) h = absurd (omega arith)
+    apart (a ∷ b ∷ c ∷ d ∷ x ∷ y ∷ l) h =
+        let z : length (drop 4 l) ≡ length l - 4 = length-drop 4 l in
+        let w : l ≡ take 4 l ++ take 8 (drop 4 l) = sym (ap (λ (m : List ℕ). take 4 l ++ m) (take-all 8 (drop 4 l) (omega arith)) ∙ take-append-drop 4 l) in
+        ap (λ (m : List ℕ). a ∷ b ∷ c ∷ d ∷ x ∷ y ∷ m) w
+
+    joined : whole (plan-of r) (take 4 (drop 6 r)) ≡ whole (plan-of t) (take 4 (drop 6 t))
+    joined =
+        let a : length (take 4 (drop 6 r)) ≡ 4 = length-take-le 4 (drop 6 r) (omega (arith, length-drop 6 r)) in
+        let b : length (take 4 (drop 6 t)) ≡ 4 = length-take-le 4 (drop 6 t) (omega (arith, length-drop 6 t)) in
+        let j : take 4 (drop 6 r) ≡ take 4 (drop 6 t) = trimmed-same (take 4 (drop 6 r)) (take 4 (drop 6 t)) (a ∙ sym b) (ap (λ (q : Plan). q .justifications) e) in
+        λ i. whole (e i) (j i)

@@ -1,0 +1,358 @@
+// The configuration: atoms and plans as two tables in one slice of words, the scalars beside it by value.
+use model::Atom;
+ghost use mathlib.Core.Path.{_≡_};
+ghost use Prim.Native.Nat.{_+_, _-_, _*_, _<_, _≤_};
+ghost use lib.ListN.{length, getD};
+ghost use Rattle.lists.specs.Tables.{index-of, trimmed};
+ghost use Rattle.model.specs.Configuration.{empty, no-value, with-flag, without-flag, has-flag, with-flags, step-removed, change-plan, add-atom, add-plan, add-subgoal};
+ghost use Rattle.state.specs.View.{atom-at, plan-at, config-of, atom-ids-of, plan-ids-of, AtomsRise, PlansRise, LivePlan, atom-counted, plan-counted, phase-put, waiting-put, counts-put, plan-word, with-plan-word, plan-numbers};
+
+// Phase, cycle, next id, the plan waiting for an answer or 0, how many atoms and how many plans live.
+pub struct Scalars {
+    pub phase: u32,
+    pub cycle: u32,
+    pub next: u32,
+    pub waiting: u32,
+    pub atoms: u32,
+    pub plans: u32,
+}
+
+// 256 atoms of 5 words (id p a b cycle), then 64 plans of 18 (id set rule left flags subgoal, four justifications, eight values).
+pub struct Config {
+    pub words: [u32; 2432],
+    pub scalars: Scalars,
+}
+
+impl Config {
+    pub const MOST_ATOMS: u32 = 256;
+
+    pub const MOST_PLANS: u32 = 64;
+
+    pub const LAST_NEXT: u32 = 65536;
+
+    // "A fresh configuration has phase 0, cycle 0, next id 1"
+    pub fn fresh() -> Config
+        ensures { λ r. ⌜ config-of (r .words) (r .scalars) ≡ empty ⌝ }
+    {
+        let words = [0u32; 2432];
+        let scalars = Scalars {
+            phase: 0,
+            cycle: 0,
+            next: 1,
+            waiting: 0,
+            atoms: 0,
+            plans: 0,
+        };
+        Config {
+            words: words,
+            scalars: scalars,
+        }
+    }
+}
+
+// "The sixteen flags of a plan instance are one 16-bit number, flag f having weight 2^(f-1)": set, cleared, tested.
+pub fn with_flag(flags: u16, f: u32) -> u16
+    requires { ⌜ (1 ≤ f) × (f ≤ 16) ⌝ }
+    ensures { λ r. ⌜ r ≡ with-flag f flags ⌝ }
+{
+    flags | (1 << (f - 1))
+}
+
+pub fn without_flag(flags: u16, f: u32) -> u16
+    requires { ⌜ (1 ≤ f) × (f ≤ 16) ⌝ }
+    ensures { λ r. ⌜ r ≡ without-flag f flags ⌝ }
+{
+    flags & !(1 << (f - 1))
+}
+
+pub fn has_flag(flags: u16, f: u32) -> bool
+    requires { ⌜ (1 ≤ f) × (f ≤ 16) ⌝ }
+    ensures { λ r. ⌜ r ≡ has-flag f flags ⌝ }
+{
+    (flags >> (f - 1)) & 1 == 1
+}
+
+impl Scalars {
+    fn atom_made(self) -> Scalars
+        requires { ⌜ (self .atoms < 256) × (self .next < 65536) ⌝ }
+        ensures { λ r. ⌜ r ≡ atom-counted self ⌝ }
+    {
+        Scalars {
+            phase: self.phase,
+            cycle: self.cycle,
+            next: self.next + 1,
+            waiting: self.waiting,
+            atoms: self.atoms + 1,
+            plans: self.plans,
+        }
+    }
+
+    fn plan_made(self) -> Scalars
+        requires { ⌜ (self .plans < 64) × (self .next < 65536) ⌝ }
+        ensures { λ r. ⌜ r ≡ plan-counted self ⌝ }
+    {
+        Scalars {
+            phase: self.phase,
+            cycle: self.cycle,
+            next: self.next + 1,
+            waiting: self.waiting,
+            atoms: self.atoms,
+            plans: self.plans + 1,
+        }
+    }
+
+    pub fn with_phase(self, phase: u32) -> Scalars
+        ensures { λ r. ⌜ r ≡ phase-put phase self ⌝ }
+    {
+        Scalars {
+            phase: phase,
+            cycle: self.cycle,
+            next: self.next,
+            waiting: self.waiting,
+            atoms: self.atoms,
+            plans: self.plans,
+        }
+    }
+
+    pub fn with_counts(self, atoms: u32, plans: u32) -> Scalars
+        ensures { λ r. ⌜ r ≡ counts-put atoms plans self ⌝ }
+    {
+        Scalars {
+            phase: self.phase,
+            cycle: self.cycle,
+            next: self.next,
+            waiting: self.waiting,
+            atoms: atoms,
+            plans: plans,
+        }
+    }
+
+    pub fn with_waiting(self, id: u32) -> Scalars
+        ensures { λ r. ⌜ r ≡ waiting-put id self ⌝ }
+    {
+        Scalars {
+            phase: self.phase,
+            cycle: self.cycle,
+            next: self.next,
+            waiting: id,
+            atoms: self.atoms,
+            plans: self.plans,
+        }
+    }
+}
+
+// Atom k.
+pub fn atom_at(words: &[u32], k: usize) -> Atom
+    requires { ⌜ (length (now words) ≡ 2432) × (k < 256) ⌝ }
+    ensures { λ r. ⌜ r ≡ atom-at (now (words .entry)) k ⌝ }
+{
+    let i = k * 5;
+    Atom {
+        id: words[i],
+        p: words[i + 1],
+        a: words[i + 2],
+        b: words[i + 3],
+        cycle: words[i + 4],
+    }
+}
+
+// A word of plan k.
+pub fn plan_word(words: &[u32], k: usize, column: usize) -> u32
+    requires { ⌜ (length (now words) ≡ 2432) × (k < 64) × (column < 18) ⌝ }
+    ensures { λ r. ⌜ r ≡ plan-word (now (words .entry)) k column ⌝ }
+{
+    words[1280 + (k * 18 + column)]
+}
+
+// What stands in plan k, column by column.
+pub fn plan_id(words: &[u32], k: usize) -> u32
+    requires { ⌜ (length (now words) ≡ 2432) × (k < 64) ⌝ }
+    ensures { λ r. ⌜ r ≡ plan-at (now (words .entry)) k .id ⌝ }
+{
+    plan_word(words, k, 0)
+}
+
+pub fn plan_set(words: &[u32], k: usize) -> u32
+    requires { ⌜ (length (now words) ≡ 2432) × (k < 64) ⌝ }
+    ensures { λ r. ⌜ r ≡ plan-at (now (words .entry)) k .set ⌝ }
+{
+    plan_word(words, k, 1)
+}
+
+pub fn plan_rule(words: &[u32], k: usize) -> u32
+    requires { ⌜ (length (now words) ≡ 2432) × (k < 64) ⌝ }
+    ensures { λ r. ⌜ r ≡ plan-at (now (words .entry)) k .rule ⌝ }
+{
+    plan_word(words, k, 2)
+}
+
+pub fn plan_left(words: &[u32], k: usize) -> u32
+    requires { ⌜ (length (now words) ≡ 2432) × (k < 64) ⌝ }
+    ensures { λ r. ⌜ r ≡ plan-at (now (words .entry)) k .left ⌝ }
+{
+    plan_word(words, k, 3)
+}
+
+pub fn plan_flags(words: &[u32], k: usize) -> u32
+    requires { ⌜ (length (now words) ≡ 2432) × (k < 64) ⌝ }
+    ensures { λ r. ⌜ r ≡ plan-at (now (words .entry)) k .flags ⌝ }
+{
+    plan_word(words, k, 4)
+}
+
+pub fn plan_subgoal(words: &[u32], k: usize) -> u32
+    requires { ⌜ (length (now words) ≡ 2432) × (k < 64) ⌝ }
+    ensures { λ r. ⌜ r ≡ plan-at (now (words .entry)) k .subgoal ⌝ }
+{
+    plan_word(words, k, 5)
+}
+
+// Justification j of plan k, 0 past the last.
+pub fn plan_justification(words: &[u32], k: usize, j: usize) -> u32
+    requires { ⌜ (length (now words) ≡ 2432) × (k < 64) × (j < 4) ⌝ }
+    ensures { λ r. ⌜ r ≡ getD (plan-at (now (words .entry)) k .justifications) j 0 ⌝ }
+{
+    plan_word(words, k, 6 + j)
+}
+
+// The value of the variable in place i.
+pub fn plan_value(words: &[u32], k: usize, i: usize) -> u32
+    requires { ⌜ (length (now words) ≡ 2432) × (k < 64) × (i < 8) ⌝ }
+    ensures { λ r. ⌜ r ≡ getD (plan-at (now (words .entry)) k .values) i no-value ⌝ }
+{
+    plan_word(words, k, 10 + i)
+}
+
+// Where the atom, the plan with this id stands; the count if there is none.
+pub fn find_atom(words: &[u32], atoms: u32, id: u32) -> usize
+    requires { ⌜ (length (now words) ≡ 2432) × (atoms ≤ 256) × AtomsRise atoms (now words) ⌝ }
+    ensures { λ r. ⌜ r ≡ index-of id (atom-ids-of atoms (now (words .entry))) ⌝ }
+{
+    table::find(words, 5, atoms as usize, id)
+}
+
+pub fn find_plan(words: &[u32], plans: u32, id: u32) -> usize
+    requires { ⌜ (length (now words) ≡ 2432) × (plans ≤ 64) × PlansRise plans (now words) ⌝ }
+    ensures { λ r. ⌜ r ≡ index-of id (plan-ids-of plans (now (words .entry))) ⌝ }
+{
+    table::find(&words[1280..], 18, plans as usize, id)
+}
+
+// A word of plan k becomes v.
+pub fn put_plan_word(words: &mut [u32], k: usize, column: usize, v: u32)
+    requires { ⌜ (length (now words) ≡ 2432) × (k < 64) × (column < 18) ⌝ }
+    ensures { λ _. ⌜ now (words .exit) ≡ with-plan-word (now (words .entry)) k column v ⌝ }
+{
+    words[1280 + (k * 18 + column)] = v;
+}
+
+// An atom is made. There is room for it.
+pub fn append_atom(words: &mut [u32], scalars: Scalars, p: u32, a: u32, b: u32) -> Scalars
+    requires { ⌜ (length (now words) ≡ 2432) × (scalars .atoms < 256) × (scalars .next < 65536) ⌝ }
+    ensures counted { λ r. ⌜ r ≡ atom-counted scalars ⌝ }
+    ensures made { λ r. ⌜ config-of (now (words .exit)) r ≡ add-atom p a b (config-of (now (words .entry)) scalars) ⌝ }
+{
+    let n = scalars.atoms as usize;
+    let numbers = [scalars.next, p, a, b, scalars.cycle];
+    table::write(words, 5, n, &numbers);
+    scalars.atom_made()
+}
+
+// The eighteen words of a plan with no subgoal and no flags.
+fn plan_numbers(
+    id: u32,
+    set: u32,
+    rule: u32,
+    left: u32,
+    justifications: [u32; 4],
+    values: [u32; 8],
+) -> [u32; 18]
+    ensures { λ r. ⌜ r ≡ plan-numbers id set rule left justifications values ⌝ }
+{
+    [
+        id,
+        set,
+        rule,
+        left,
+        0,
+        0,
+        justifications[0],
+        justifications[1],
+        justifications[2],
+        justifications[3],
+        values[0],
+        values[1],
+        values[2],
+        values[3],
+        values[4],
+        values[5],
+        values[6],
+        values[7],
+    ]
+}
+
+// A plan is made, its justifications rising with zeros behind. There is room for it.
+pub fn append_plan(
+    words: &mut [u32],
+    scalars: Scalars,
+    set: u32,
+    rule: u32,
+    left: u32,
+    justifications: [u32; 4],
+    values: [u32; 8],
+) -> Scalars
+    requires { ⌜ (length (now words) ≡ 2432) × (scalars .atoms ≤ 256) × (scalars .plans < 64) × (scalars .next < 65536) ⌝ }
+    ensures counted { λ r. ⌜ r ≡ plan-counted scalars ⌝ }
+    ensures made { λ r. ⌜ config-of (now (words .exit)) r ≡ add-plan set rule values left (trimmed justifications) (config-of (now (words .entry)) scalars) ⌝ }
+{
+    let n = scalars.plans as usize;
+    let numbers = plan_numbers(scalars.next, set, rule, left, justifications, values);
+    table::write(&mut words[1280..], 18, n, &numbers);
+    scalars.plan_made()
+}
+
+// Flag f of plan k is set, is cleared.
+pub fn set_flag(words: &mut [u32], scalars: Scalars, k: usize, f: u32)
+    requires { ⌜ LivePlan (now words) scalars k × (plan-at (now words) k .flags ≤ 65535) × (1 ≤ f) × (f ≤ 16) ⌝ }
+    ensures { λ _. ⌜ config-of (now (words .exit)) scalars ≡ change-plan (plan-at (now (words .entry)) k .id) (with-flags (with-flag f)) (config-of (now (words .entry)) scalars) ⌝ }
+{
+    let flags = plan_flags(words, k) as u16;
+    put_plan_word(words, k, 4, with_flag(flags, f) as u32);
+}
+
+pub fn clear_flag(words: &mut [u32], scalars: Scalars, k: usize, f: u32)
+    requires { ⌜ LivePlan (now words) scalars k × (plan-at (now words) k .flags ≤ 65535) × (1 ≤ f) × (f ≤ 16) ⌝ }
+    ensures { λ _. ⌜ config-of (now (words .exit)) scalars ≡ change-plan (plan-at (now (words .entry)) k .id) (with-flags (without-flag f)) (config-of (now (words .entry)) scalars) ⌝ }
+{
+    let flags = plan_flags(words, k) as u16;
+    put_plan_word(words, k, 4, without_flag(flags, f) as u32);
+}
+
+pub fn one_less(x: u32) -> u32
+    ensures { λ r. ⌜ r ≡ x - 1 ⌝ }
+{
+    if x == 0 {
+        return 0;
+    }
+    x - 1
+}
+
+// Plan k loses its first step.
+pub fn remove_step(words: &mut [u32], scalars: Scalars, k: usize)
+    requires { ⌜ LivePlan (now words) scalars k ⌝ }
+    ensures { λ _. ⌜ config-of (now (words .exit)) scalars ≡ change-plan (plan-at (now (words .entry)) k .id) step-removed (config-of (now (words .entry)) scalars) ⌝ }
+{
+    let left = plan_left(words, k);
+    put_plan_word(words, k, 3, one_less(left));
+}
+
+// An atom is made and linked as the subgoal of plan k. There is room for it.
+pub fn add_subgoal(words: &mut [u32], scalars: Scalars, k: usize, p: u32, a: u32, b: u32) -> Scalars
+    requires { ⌜ LivePlan (now words) scalars k × (scalars .atoms < 256) × (scalars .next < 65536) ⌝ }
+    ensures counted { λ r. ⌜ r ≡ atom-counted scalars ⌝ }
+    ensures made { λ r. ⌜ config-of (now (words .exit)) r ≡ add-subgoal (plan-at (now (words .entry)) k .id) p a b (config-of (now (words .entry)) scalars) ⌝ }
+{
+    let r = append_atom(words, scalars, p, a, b);
+    put_plan_word(words, k, 5, scalars.next);
+    r
+}

@@ -1,0 +1,5 @@
+pub mod Numbers
+pub mod Integers
+pub mod Cells
+pub mod Columns
+pub mod Ends
