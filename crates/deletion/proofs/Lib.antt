@@ -3,3 +3,4 @@ pub mod Pass
 pub mod Unlinked
 pub mod Kept
 pub mod Removed
+pub mod Sound

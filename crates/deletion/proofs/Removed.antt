@@ -1,5 +1,5 @@
 -- What the marks keep, with the target's owner unlinked, is what the model's deletion leaves, and as many went.
-use mathlib.Core.Path.{_≡_, refl, ap, sym, _∙_}
+use mathlib.Core.Path.{_≡_, refl, ap, sym, _∙_, subst}
 use mathlib.Core.Bool.{Bool, true, false, not, _&&_}
 use mathlib.Core.List.{List, map}
 use mathlib.Core.Logic.{⊎-elim, _≢_}
@@ -13,13 +13,13 @@ use Rattle.lists.specs.Lists.{In, keep, if_then_else_, bit, member}
 use Rattle.lists.specs.Tables.{keep-by}
 use Rattle.lists.proofs.Lists.{in-map, in-cast, in-member, out-member, member-out, keep-in}
 use Rattle.lists.proofs.Tables.{equal-or-not, tabulate-length, map-same-in, map-keep-by, keep-by-test}
-use Rattle.model.specs.Graph.{Graph, Reach, here, onward, reached, survives, loses-subgoal, choose}
+use Rattle.model.specs.Graph.{Graph, Reach, here, onward, reached, survives, loses-subgoal, choose, Sound}
 use Rattle.model.specs.Events.{deletion, change, gone-by}
 use Rattle.model.specs.declared.Atom.{Atom}
 use Rattle.model.specs.Configuration.{Plan, Config}
 use Rattle.model.specs.Deletion.{node, graph, links-in, plan-without, remove}
 use Rattle.graph_laws.proofs.Links.{owner-of, reached-is}
-use Rattle.graph_laws.proofs.Keeps.{loses-member, loses-zero}
+use Rattle.graph_laws.proofs.Keeps.{keeps, loses-member, loses-zero}
 use Rattle.graph_laws.proofs.Turns.{turns-remove}
 use Rattle.graph_laws.proofs.Count.{change-size}
 use Rattle.state.specs.declared.Scalars.{Scalars}
@@ -117,3 +117,7 @@ module _ (W : List ℕ) (s : Scalars) (h : SoundWords W s) (t : ℕ) where
         where
           sums : (n x p y g u a v b : ℕ) → n ≡ x → p ≡ y → u ≡ a → v ≡ b → x + y + g ≡ u + v + 0 → n ≤ a → p ≤ b → (a - n) + (b - p) ≡ g
           sums n x p y g u a v b e1 e2 e3 e4 e5 h1 h2 = omega arith
+
+      -- what is left is sound
+      pub left-sound : length X ≡ 2432 → n ≤ 256 → p ≤ 64 → SoundWords X (counts-put n p s)
+      left-sound l hn hp = record { long = l; few-atoms = hn; few-plans = hp; sound = subst Sound (sym (ap graph removed ∙ turns-remove t c)) (keeps (graph c) (deletion t) (h .sound) tt) }

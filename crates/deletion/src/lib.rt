@@ -179,7 +179,7 @@ fn keep_plans(words: &mut [u32], plans: u32, left: &[bool]) -> u32
 // "Deleting a target removes exactly the instances reached from it by zero or more links, and every link with an end among them."
 pub fn remove(words: &mut [u32], scalars: Scalars, target: u32) -> Removal
     requires { ⌜ SoundWords (now words) scalars ⌝ }
-    ensures fewer { λ r. ⌜ (r .scalars .atoms ≤ scalars .atoms) × (r .scalars .plans ≤ scalars .plans) ⌝ }
+    ensures sound { λ r. ⌜ SoundWords (now (words .exit)) (r .scalars) ⌝ }
     ensures removed { λ r. ⌜ config-of (now (words .exit)) (r .scalars) ≡ remove target (config-of (now (words .entry)) scalars) ⌝ }
     ensures counted { λ r. ⌜ r .gone ≡ gone-by (graph (config-of (now (words .entry)) scalars)) (deletion target) ⌝ }
 {

@@ -64,7 +64,7 @@ module _ (program : List Row) (c : Config) where
   fire-first-kept l s w z h [] k = after-done (Kept program c) _ (record { faithful = faithful-report c _ (faithful-quiet c (begin c) (good-begin program c w z .faithful) (with-phase (c .phase + 1)) refl) moved-on; shaped = shaped-phase program c w z (c .phase + 1) (omega arith) })
   fire-first-kept l s w z h (f ∷ fs) k = after-map (Good program c) (Kept program c) _ (kept program c) (fire-good program c l s w z (c .phase) f (k f (first refl)))
 
-  step-ends : After Ends (step program c)
+  pub step-ends : After Ends (step program c)
   unfolding step
   step-ends = guarded _ (λ l s w. after-unless (Kept program c) _ _ _ (λ e.
       let z = eqb-true (c .waiting) 0 (not-false _ (or-neither-right (eqb (c .phase) 0) (not (eqb (c .waiting) 0)) e)) in

@@ -1,13 +1,13 @@
 -- A rule that fires keeps the configuration in shape and tells its events.
 use mathlib.Core.Path.{_≡_, refl, sym, ap, _∙_, subst}
-use mathlib.Core.Bool.{Bool, true, false, and-eq-true-iff, true≢false}
+use mathlib.Core.Bool.{Bool, true, false, true≢false}
 use mathlib.Core.Logic.{_⊎_, inl, inr, ⊎-elim, _≢_}
 use mathlib.Core.List.{List, [], _∷_, _++_, map}
 use Prim.Native.Nat.{ℕ, _≤_}
 use native.Mathlib.Omega.{arith}
 use lib.Dec.{eqb, leb}
 use lib.ListN.{length, set}
-use borrow.Author.Tests.{eqb-false, leb-true, leb-false}
+use borrow.Author.Tests.{eqb-false, leb-false}
 use Rattle.lists.specs.Lists.{In, first, keep, first-of, if_then_else_, within}
 use Rattle.lists.proofs.Lists.{in-nil, in-one, in-left, in-right, in-append, in-map, map-in, keep-in}
 use Rattle.lists.proofs.Bind.{append-nil, bind-in}
@@ -28,7 +28,7 @@ use Rattle.graph_laws.proofs.Faithful.{faithful-plan, faithful-report}
 use Rattle.graph_laws.proofs.After.{after-unless, after-if, after-done}
 use Rattle.search_laws.proofs.Exact.{in-match}
 use Rattle.program_laws.specs.Lawful.{Lawful, Gives, Given, Uses}
-use Rattle.program_laws.proofs.Rows.{part-row, row-range, object-step, meta-action, object-reasons, ActionRow}
+use Rattle.program_laws.proofs.Rows.{part-row, row-range, object-step, meta-action, object-reasons, ActionRow, action-flag}
 use Rattle.demands.proofs.Shape.{PlanFormed, Shaped}
 use Rattle.demands.proofs.Kept.{shaped-plan}
 use Rattle.demands.proofs.Values.{Valued, Values, Grows, Solved, set-values, set-grows, set-valued, variable-bounds, solves-values, solves-split, reasons-match, context-matches}
@@ -95,7 +95,7 @@ module _ (program : List Row) (c : Config) (l : Lawful program) (s : Sound (grap
       odd : (r : Row) → r .op ≡ 1 → negation r ≡ false
       odd r e = rw e
 
-  fits : is-object program t n ≡ true → Fits (graph c) (plan-made (justifications-of g))
+  pub fits : is-object program t n ≡ true → Fits (graph c) (plan-made (justifications-of g))
   unfolding justifications-of
   fits o =
       let a = reason-ids in
@@ -206,11 +206,7 @@ module _ (program : List Row) (c : Config) (l : Lawful program) (s : Sound (grap
         new-valued x u k (inr (d, m)) = subst (Valued (values-after r v L)) (sym m) (takes (variable? (r .i)) refl (subst (λ (y : ℕ). variable? y ≡ true) m u) k)
 
     flag-number : (r .op ≡ 23) ⊎ (r .op ≡ 24) → (1 ≤ constant (r .a)) × (constant (r .a) ≤ 16)
-    flag-number h =
-        let d = and-eq-true-iff (leb 10 (r .a)) (leb (r .a) 25) .0 (action .flag h) in
-        let p = leb-true 10 (r .a) (d .0) in
-        let q = leb-true (r .a) 25 (d .1) in
-        omega arith
+    flag-number = action-flag r action
 
     one-action : AfterAction (Acting (before ++ (r ∷ []))) (act t n r v L)
     one-action = after-act t n r v L (Acting (before ++ (r ∷ [])))

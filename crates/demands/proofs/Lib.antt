@@ -15,3 +15,4 @@ pub mod Fire
 pub mod Exec
 pub mod Fresh
 pub mod Calls
+pub mod Numbers

@@ -1,18 +1,16 @@
 -- The number of sets is the set of the last row, since rows stand by their sets.
 use mathlib.Core.Path.{_≡_, sym, ap, _∙_}
-use mathlib.Core.Logic.{⊎-elim}
 use mathlib.Core.List.{List, map}
 use Prim.Native.Nat.{ℕ, suc, _+_, _*_, _/_, _≤_}
 use native.Mathlib.Omega.{arith}
 use lib.ListN.{length, getD}
 use Rattle.lists.specs.Lists.{Pairs, highest, count-up}
-use Rattle.lists.proofs.Lists.{map-in, map-map, pairs-map}
-use Rattle.lists.proofs.Tables.{equal-or-not}
-use Rattle.lists.proofs.Counted.{highest-last, highest-below, pairs-weaker, counted-at, counted-long}
+use Rattle.lists.proofs.Lists.{map-map, pairs-map}
+use Rattle.lists.proofs.Counted.{highest-last, pairs-weaker, counted-at, counted-long}
 use Rattle.model.specs.declared.Row.{Row}
 use Rattle.model.specs.Program.{sets}
 use Rattle.program.specs.Rows.{row-at, rows-of, rows-from}
-use Rattle.program_laws.specs.Lawful.{NotLater, Lawful}
+use Rattle.program_laws.specs.Lawful.{NotLater}
 
 abbrev set-of : Row → ℕ
 set-of r = r .set
@@ -32,11 +30,3 @@ sets-last P k o e =
     pairs-map (λ (x y : ℕ). x ≤ y) set-of (rows-from P 0 n) (pairs-weaker NotLater (λ r q. r .set ≤ q .set) (rows-from P 0 n) (λ r q w. w .sets) o) in
     let z : 0 + k ≡ k = omega arith in
     highest-last (map set-of (rows-from P 0 n)) k rise (e ∙ sym (ap length m ∙ l)) ∙ ap (λ (l : List ℕ). getD l k 0) m ∙ counted-at f 0 0 n k (omega arith) ∙ ap f z
-
--- "Sets 1 to 8"
-pub sets-few : (program : List Row) → Lawful program → sets program ≤ 8
-unfolding sets
-sets-few program w = highest-below (map set-of program) 8 (λ x i.
-    let r = map-in set-of program i in
-    let e = r .2 in
-    ⊎-elim (λ z. omega arith) (λ z. let h = w .rule-rows (r .0) (r .1) (omega arith) .0 in omega arith) (equal-or-not (r .0 .set) 0))

@@ -1,54 +1,32 @@
--- A plan's first step is the row where its remainder begins; its subgoal is the atom that stands where it is found.
+-- A rule with reasons; the test of a step that may not be there; a plan's subgoal is the atom that stands where it is found.
 use mathlib.Core.Path.{_≡_, sym, ap, _∙_}
-use mathlib.Core.Bool.{false, not, _&&_, and-false}
+use mathlib.Core.Bool.{Bool, true, false, not, _&&_, and-false, or-false}
 use mathlib.Core.List.{List, [], _∷_}
-use Prim.Native.Nat.{ℕ, _-_, _/_, _≤_, _<_}
+use Prim.Native.Nat.{ℕ, _-_, _≤_, _<_}
 use native.Mathlib.Omega.{arith}
 use lib.Dec.{ltb, eqb}
 use lib.ListN.{length, getD}
 use borrow.Author.Tests.{lt-ltb, le-ltb}
-use Rattle.lists.specs.Lists.{is-empty, first-of, some}
+use Rattle.lists.specs.Lists.{is-empty, some, when}
 use Rattle.lists.specs.Tables.{index-of}
 use Rattle.lists.proofs.Lists.{pairs-map}
 use Rattle.lists.proofs.Tables.{tabulate-length, tabulate-at}
-use Rattle.lists.proofs.Counted.{some-found, some-absent, first-behind, none-behind, counted-at, counted-long}
+use Rattle.lists.proofs.Counted.{some-found, some-absent, counted-long}
 use Rattle.model.specs.declared.Row.{Row}
 use Rattle.model.specs.declared.Atom.{Atom}
-use Rattle.model.specs.Program.{part-of, body, is-object}
-use Rattle.model.specs.Configuration.{Plan, remainder}
+use Rattle.model.specs.Program.{part-of, is-object}
+use Rattle.model.specs.Configuration.{Plan}
 use Rattle.model.specs.WellFormed.{makes-atom, is-subgoal-step}
 use Rattle.program.specs.Rows.{row-at, rows-of, rows-from}
-use Rattle.spans.specs.declared.Span.{Span}
 use Rattle.state.specs.declared.Scalars.{Scalars}
 use Rattle.state.specs.View.{atom-at, atoms-of, config-of, atom-ids-of}
-use Rattle.formed_plans.specs.Plans.{AtomsStand, BodyAt, remainder-at}
+use Rattle.formed_plans.specs.Plans.{AtomsStand}
 
-module _ (P : List ℕ) (q : Plan) (span : Span) (w : BodyAt P q span) where
-  pub body-long : length (body (rows-of P) (q .set) (q .rule)) ≡ span .to - span .from
-  body-long = ap length (sym (w .rows)) ∙ counted-long (row-at P) (span .from) (span .to - span .from)
-
-  pub first-step : remainder-at span (q .left) < span .to → first-of (remainder (rows-of P) q) ≡ row-at P (remainder-at span (q .left)) ∷ []
-  unfolding remainder
-  first-step h =
-      let n = span .to - span .from in
-      let z = counted-long (row-at P) (span .from) n in
-      rw (← w .rows, z) (first-behind (row-at P 0) (rows-from P (span .from) n) (n - q .left) (omega arith) ∙ ap {B = List Row} (λ (r : Row). r ∷ []) (counted-at (row-at P) (row-at P 0) (span .from) n (n - q .left) (omega arith)))
-
-  pub no-step : span .to ≤ remainder-at span (q .left) → first-of (remainder (rows-of P) q) ≡ []
-  unfolding remainder
-  no-step h =
-      let n = span .to - span .from in
-      let z = counted-long (row-at P) (span .from) n in
-      let o = w .ordered in
-      rw (← w .rows, z) (none-behind (rows-from P (span .from) n) (n - q .left) (omega arith))
-
--- a span of the part with the set and the rule of a plan
-pub part-named : (P : List ℕ) (q : Plan) (s n part : ℕ) → s ≡ q .set → n ≡ q .rule → part-of (rows-of P) s n part ≡ part-of (rows-of P) (q .set) (q .rule) part
-part-named P q s n part e f = ap (λ (m : ℕ). part-of (rows-of P) m n part) e ∙ ap (λ (m : ℕ). part-of (rows-of P) (q .set) m part) f
-
-pub span-body : (P : List ℕ) (q : Plan) (span : Span) (s n : ℕ) → s ≡ q .set → n ≡ q .rule → (span .from ≤ span .to) × (span .to ≤ length P / 8) →
-    rows-from P (span .from) (span .to - span .from) ≡ part-of (rows-of P) s n 3 → BodyAt P q span
-span-body P q span s n e f b r = record { ordered = b .0; inside = b .1; rows = r ∙ part-named P q s n 3 e f }
+-- a step is there and passes the test
+pub some-when : (f : Row → Bool) (b : Bool) (r : Row) (l : List Row) → when b r ≡ l → (b && f r) ≡ some f l
+unfolding some
+some-when f true r l e = sym (or-false (f r)) ∙ ap (some f) e
+some-when f false r l e = ap (some f) e
 
 -- a rule with reasons is an object rule
 pub object-is : (P : List ℕ) (s n a b : ℕ) → rows-from P a (b - a) ≡ part-of (rows-of P) s n 1 → ltb a b ≡ is-object (rows-of P) s n

@@ -1,4 +1,4 @@
--- The words of a plan: its four justifications against the list that they hold, its eight values.
+-- The words of a plan: its four justifications against the list that they hold.
 use mathlib.Core.Path.{_≡_, refl, sym, ap, _∙_}
 use mathlib.Core.Bool.{Bool, true, false, _&&_, and-true, and-false}
 use mathlib.Core.List.{List, [], _∷_}
@@ -13,9 +13,9 @@ use Rattle.lists.specs.Tables.{trim-cons, trimmed}
 use Rattle.lists.proofs.Tables.{tabulate-length}
 use Rattle.lists.proofs.Counted.{trimmed-few, trimmed-four}
 use Rattle.table.specs.Rows.{row}
-use Rattle.table.proofs.Rows.{row-long}
 use Rattle.model.specs.declared.Atom.{Atom}
 use Rattle.state.specs.View.{atom-at, plan-at, atoms-of, atom-ids-of}
+use Rattle.state.proofs.View.{plan-words-long}
 use Rattle.formed_plans.specs.Plans.{may-follow, justified}
 
 middle-swap : (a b c d : Bool) → (a && b) && (c && d) ≡ (a && c) && (b && d)
@@ -75,20 +75,10 @@ module _ (alive : ℕ → Bool) where
 
 -- the words of a plan
 module _ (words : List ℕ) (k : ℕ) (long : length words ≡ 2432) (few : k < 64) where
-  row-18 : length (row 18 (drop 1280 words) k) ≡ 18
-  row-18 = let z : length (drop 1280 words) ≡ length words - 1280 = length-drop 1280 words in row-long 18 (drop 1280 words) k (omega arith)
-
-  pub values-long : length (plan-at words k .values) ≡ 8
-  unfolding plan-at
-  values-long =
-      let z = row-18 in
-      let d = length-drop 10 (row 18 (drop 1280 words) k) in
-      length-take-le 8 (drop 10 (row 18 (drop 1280 words) k)) (omega arith)
-
   justification-words : let js = plan-at words k .justifications in trimmed (getD js 0 0 ∷ getD js 1 0 ∷ getD js 2 0 ∷ getD js 3 0 ∷ []) ≡ js
   unfolding plan-at
   justification-words =
-      let z = row-18 in
+      let z = plan-words-long words k long few in
       let d = length-drop 6 (row 18 (drop 1280 words) k) in
       trimmed-four (take 4 (drop 6 (row 18 (drop 1280 words) k))) (length-take-le 4 (drop 6 (row 18 (drop 1280 words) k)) (omega arith))
 

@@ -2,18 +2,15 @@
 use mathlib.Core.Path.{_≡_}
 use mathlib.Core.Bool.{Bool, false, _&&_, _||_}
 use mathlib.Core.List.{List}
-use Prim.Native.Nat.{ℕ, _+_, _-_, _/_, _≤_}
+use Prim.Native.Nat.{ℕ, _≤_}
 use lib.Dec.{leb, ltb, eqb}
 use lib.ListN.{length}
 use Rattle.lists.specs.Lists.{every, some, first-of, rises, member}
 use Rattle.model.specs.declared.Row.{Row}
-use Rattle.model.specs.Program.{body}
 use Rattle.model.specs.Configuration.{Plan, Config, remainder}
 use Rattle.model.specs.Deletion.{node, graph}
 use Rattle.model.specs.WellFormed.{node-formed, is-subgoal-step, plan-formed}
 use Rattle.state.specs.View.{atom-ids-of, AtomsRise}
-use Rattle.program.specs.Rows.{rows-of, rows-from}
-use Rattle.spans.specs.declared.Span.{Span}
 
 -- the atoms as the first pass leaves them: within their limit, their ids rising from 1 on
 pub record AtomsStand (words : List ℕ) (atoms : ℕ) : Type 0 where
@@ -36,16 +33,6 @@ justified alive js = leb 1 (length js) && (leb (length js) 4 && (rises js && eve
 
 abbrev pub subgoal-alive : List ℕ → Plan → Bool
 subgoal-alive ids q = eqb (q .subgoal) 0 || (member (q .subgoal) ids && ltb (q .id) (q .subgoal))
-
--- the rows of a span are the plan's body
-pub record BodyAt (program : List ℕ) (q : Plan) (span : Span) : Type 0 where
-  pub ordered : span .from ≤ span .to
-  pub inside : span .to ≤ length program / 8
-  pub rows : rows-from program (span .from) (span .to - span .from) ≡ body (rows-of program) (q .set) (q .rule)
-
--- where the plan's remainder begins
-abbrev pub remainder-at : Span → ℕ → ℕ
-remainder-at span left = span .from + (span .to - span .from - left)
 
 -- "a plan with a subgoal has as first step a subgoal step equal to that atom"
 abbrev pub subgoal-first : List Row → Config → Plan → Bool

@@ -7,16 +7,14 @@ ghost use Prim.Native.Nat.{_-_, _/_, _<_, _≤_};
 ghost use lib.Dec.{leb};
 ghost use lib.ListN.{length};
 ghost use Rattle.lists.specs.Lists.{Pairs, every, member};
-ghost use Rattle.model.specs.Configuration.{no-value, value-of, operand};
+ghost use Rattle.model.specs.Configuration.{no-value};
 ghost use Rattle.model.specs.Deletion.{node, graph};
 ghost use Rattle.model.specs.WellFormed.{node-formed, has-value, row-has-values, makes-atom, is-subgoal-step, plan-formed};
 ghost use Rattle.program.specs.Rows.{rows-of, rows-from};
 ghost use Rattle.program_laws.specs.Lawful.{NotLater};
 ghost use Rattle.state.specs.View.{atom-at, plan-at, config-of, atom-ids-of};
-ghost use Rattle.formed_plans.specs.Plans.{AtomsStand, alive-below, may-follow, justified, subgoal-alive, BodyAt, remainder-at, subgoal-first, acts-first, plan-fits};
-
-// The value of a variable that has none.
-const NO_VALUE: u32 = 65536;
+ghost use Rattle.plan_steps.specs.Bodies.{BodyAt};
+ghost use Rattle.formed_plans.specs.Plans.{AtomsStand, alive-below, may-follow, justified, subgoal-alive, subgoal-first, acts-first, plan-fits};
 
 // An atom with this id lives.
 fn is_atom(words: &[u32], atoms: u32, id: u32) -> bool
@@ -82,23 +80,12 @@ fn values_fit(words: &[u32], k: usize) -> bool
 {
     let mut i: usize = 0;
     while i < 8 {
-        if NO_VALUE < state::plan_value(words, k, i) {
+        if state::NO_VALUE < state::plan_value(words, k, i) {
             return false;
         }
         i += 1;
     }
     true
-}
-
-// The value of operand x, which is no constant, in plan k.
-fn value_of(words: &[u32], k: usize, x: u32) -> u32
-    requires { ⌜ (length (now words) ≡ 2432) × (k < 64) × (x ≤ 8) ⌝ }
-    ensures { λ r. ⌜ r ≡ value-of (plan-at (now (words .entry)) k .values) x ⌝ }
-{
-    if x == 0 {
-        return NO_VALUE;
-    }
-    state::plan_value(words, k, (8 - x) as usize)
 }
 
 // Operand x is no variable, or one that has a value in plan k.
@@ -112,18 +99,7 @@ fn has_value(words: &[u32], k: usize, x: u32) -> bool
     if 8 < x {
         return true;
     }
-    value_of(words, k, x) != NO_VALUE
-}
-
-// The number that operand x stands for in plan k.
-fn operand(words: &[u32], k: usize, x: u32) -> u32
-    requires { ⌜ (length (now words) ≡ 2432) × (k < 64) ⌝ }
-    ensures { λ r. ⌜ r ≡ operand (plan-at (now (words .entry)) k .values) x ⌝ }
-{
-    if 9 <= x {
-        return x - 9;
-    }
-    value_of(words, k, x)
+    plan_steps::value_of(words, k, x) != state::NO_VALUE
 }
 
 // Each variable of the row has a value in plan k.
@@ -156,10 +132,9 @@ fn makes_atom(words: &[u32], k: usize, row: Row, i: usize) -> bool
     requires { ⌜ (length (now words) ≡ 2432) × (k < 64) × (i < 256) ⌝ }
     ensures { λ r. ⌜ r ≡ makes-atom (plan-at (now (words .entry)) k .values) row (atom-at (now (words .entry)) i) ⌝ }
 {
-    let x = state::atom_at(words, i);
-    let a = operand(words, k, row.a);
-    let b = operand(words, k, row.b);
-    (x.p == row.p) & ((x.a == a) & (x.b == b))
+    let a = plan_steps::operand(words, k, row.a);
+    let b = plan_steps::operand(words, k, row.b);
+    state::is_equal(words, i, row.p, a, b)
 }
 
 // The row is a subgoal step, and as a step of plan k makes the atom that is the plan's subgoal.
@@ -176,18 +151,6 @@ fn is_subgoal_step(words: &[u32], scalars: Scalars, k: usize, row: Row) -> bool
     (row.op == 36) & makes_atom(words, k, row, i)
 }
 
-// The row of a body where its last rows begin, as many as are left; the body's end if none is.
-fn remainder_at(span: Span, left: u32) -> usize
-    requires { ⌜ span .from ≤ span .to ⌝ }
-    ensures { λ r. ⌜ r ≡ remainder-at span left ⌝ }
-{
-    let n = left as usize;
-    if span.to - span.from <= n {
-        return span.from;
-    }
-    span.to - n
-}
-
 // "a plan with a subgoal has as first step a subgoal step equal to that atom"
 fn subgoal_first(program: &[u32], words: &[u32], scalars: Scalars, k: usize, span: Span) -> bool
     requires { ⌜ AtomsStand (now words) (scalars .atoms) × (k < 64) × BodyAt (now program) (plan-at (now words) k) span ⌝ }
@@ -196,12 +159,8 @@ fn subgoal_first(program: &[u32], words: &[u32], scalars: Scalars, k: usize, spa
     if state::plan_subgoal(words, k) == 0 {
         return true;
     }
-    let j = remainder_at(span, state::plan_left(words, k));
-    if span.to <= j {
-        return false;
-    }
-    let row = program::row_at(program, j);
-    is_subgoal_step(words, scalars, k, row)
+    let x = plan_steps::next_step(program, words, k, span);
+    x.found & is_subgoal_step(words, scalars, k, x.row)
 }
 
 // Rule, values, remainder, flags and first step of plan k are well formed.
@@ -212,7 +171,7 @@ fn plan_formed(program: &[u32], words: &[u32], scalars: Scalars, k: usize) -> bo
     let set = state::plan_set(words, k);
     let rule = state::plan_rule(words, k);
     let reasons = spans::span_of(program, set, rule, 1);
-    let body = spans::span_of(program, set, rule, 3);
+    let body = plan_steps::body_of(program, words, k);
     let object = reasons.from < reasons.to;
     let left = state::plan_left(words, k) as usize <= body.to - body.from;
     let values = values_fit(words, k) & body_has_values(program, words, k, body);
@@ -233,13 +192,7 @@ pub fn acts_first(program: &[u32], words: &[u32], k: usize) -> bool
     requires { ⌜ (length (now words) ≡ 2432) × (k < 64) × Pairs NotLater (rows-of (now program)) ⌝ }
     ensures { λ r. ⌜ r ≡ acts-first (rows-of (now (program .entry))) (plan-at (now (words .entry)) k) ⌝ }
 {
-    let set = state::plan_set(words, k);
-    let rule = state::plan_rule(words, k);
-    let body = spans::span_of(program, set, rule, 3);
-    let j = remainder_at(body, state::plan_left(words, k));
-    if body.to <= j {
-        return false;
-    }
-    let row = program::row_at(program, j);
-    row.op == 31
+    let body = plan_steps::body_of(program, words, k);
+    let x = plan_steps::next_step(program, words, k, body);
+    x.found & (x.row.op == 31)
 }

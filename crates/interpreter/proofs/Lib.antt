@@ -3,3 +3,6 @@ pub mod Deleted
 pub mod Answered
 pub mod Sensed
 pub mod Waiting
+pub mod Stepped
+pub mod Ran
+pub mod DemandThree

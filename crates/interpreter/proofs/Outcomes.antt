@@ -1,16 +1,18 @@
 -- Refusals, and what is known once the program and the configuration are admitted.
-use mathlib.Core.Path.{_≡_, refl, sym, ap, _∙_}
+use mathlib.Core.Path.{_≡_, refl, sym, ap, _∙_, subst}
 use mathlib.Core.Bool.{Bool, true, false, not, _&&_, and-eq-true-iff}
 use mathlib.Core.Logic.{_≢_}
-use mathlib.Core.List.{List}
+use mathlib.Core.List.{List, [], _∷_}
 use Prim.Native.Nat.{ℕ, _%_}
 use lib.Dec.{eqb}
 use lib.ListN.{length}
+use Rattle.lists.specs.Lists.{if_then_else_, every}
 use Rattle.lists.proofs.Lists.{clash}
+use Rattle.model.specs.declared.Row.{Row}
 use Rattle.model.specs.Configuration as Configuration
 use Rattle.model.specs.Graph.{Sound}
 use Rattle.model.specs.Deletion.{graph}
-use Rattle.model.specs.Render.{well-formed}
+use Rattle.model.specs.Render.{well-formed, in-range}
 use Rattle.model.specs.WellFormed.{config-formed, given-well}
 use Rattle.model.specs.Log.{Outcome, refused, unless, answer-of}
 use native.Mathlib.Omega.{arith}
@@ -19,39 +21,34 @@ use Rattle.state.specs.View.{SoundWords}
 use Rattle.state.proofs.Live.{atoms-counted, plans-counted}
 use Rattle.program_laws.specs.Lawful.{Lawful}
 use Rattle.program_laws.proofs.Lawful.{lawful}
+use Rattle.demands.proofs.Outcomes.{unless-true, unless-false}
 use Rattle.demands.proofs.Shape.{Shaped, formed-shaped}
 use Rattle.state.specs.declared.Config.{Config}
 use Rattle.interpreter.specs.declared.Reply.{Reply}
-use Rattle.interpreter.specs.Calls.{conf, reported, refusal, on-program, admitted}
+use Rattle.interpreter.specs.Calls.{conf, reported, refusal, no-row, given-rows, admitted}
 
-pub unless-true : (b : Bool) (n : ℕ) (o : Outcome) → b ≡ true → unless b n o ≡ refused n
-unfolding unless
-unless-true true n o e = refl
-unless-true false n o e = clash e refl
+-- words that are not whole rows are refused
+torn-refused : (c : Configuration.Config) → given-well (no-row ∷ []) c ≡ false
+unfolding given-well well-formed in-range every
+torn-refused c = refl
 
-pub unless-false : (b : Bool) (n : ℕ) (o : Outcome) → b ≡ false → unless b n o ≡ o
-unfolding unless
-unless-false true n o e = clash refl e
-unless-false false n o e = refl
+-- what is admitted is whole rows
+pub rows-admitted : (program : List ℕ) (c : Configuration.Config) → admitted program c ≡ true → given-rows program ≡ rows-of program
+unfolding admitted given-rows
+rows-admitted program c = at (eqb (length program % 8) 0)
+  where
+    at : (x : Bool) → given-well (if x then rows-of program else no-row ∷ []) c ≡ true → (if x then rows-of program else no-row ∷ []) ≡ rows-of program
+    at true e = refl
+    at false e = clash e (torn-refused c)
 
 module _ (program : List ℕ) (c : Configuration.Config) (o : Outcome) where
-  pub not-admitted : admitted program c ≡ false → on-program program (unless (not (given-well (rows-of program) c)) 1 o) ≡ refused 1
-  unfolding admitted on-program unless
-  not-admitted = at (eqb (length program % 8) 0) (given-well (rows-of program) c)
-    where
-      at : (x y : Bool) → (x && y) ≡ false → unless (not x) 1 (unless (not y) 1 o) ≡ refused 1
-      at true true e = clash refl e
-      at true false e = refl
-      at false y e = refl
+  pub not-admitted : admitted program c ≡ false → unless (not (given-well (given-rows program) c)) 1 o ≡ refused 1
+  unfolding admitted
+  not-admitted e = unless-true (not (given-well (given-rows program) c)) 1 o (ap not e)
 
-  pub is-admitted : admitted program c ≡ true → on-program program (unless (not (given-well (rows-of program) c)) 1 o) ≡ o
-  unfolding admitted on-program unless
-  is-admitted = at (eqb (length program % 8) 0) (given-well (rows-of program) c)
-    where
-      at : (x y : Bool) → (x && y) ≡ true → unless (not x) 1 (unless (not y) 1 o) ≡ o
-      at true true e = refl
-      at true false e = clash e refl
-      at false y e = clash e refl
+  pub is-admitted : admitted program c ≡ true → unless (not (given-well (given-rows program) c)) 1 o ≡ o
+  unfolding admitted
+  is-admitted e = unless-false (not (given-well (given-rows program) c)) 1 o (ap not e)
 
 -- what is admitted is well formed
 pub record Admitted (program : List ℕ) (c : Configuration.Config) : Type 0 where
@@ -59,11 +56,14 @@ pub record Admitted (program : List ℕ) (c : Configuration.Config) : Type 0 whe
   pub sound : Sound (graph c)
   pub shaped : Shaped (rows-of program) c
 
+pub given-admitted : (program : List ℕ) (c : Configuration.Config) → admitted program c ≡ true → given-well (rows-of program) c ≡ true
+unfolding admitted
+given-admitted program c e = subst (λ (rows : List Row). given-well rows c ≡ true) (rows-admitted program c e) e
+
 pub admitted-well : (program : List ℕ) (c : Configuration.Config) → admitted program c ≡ true → Admitted program c
-unfolding admitted given-well
+unfolding given-well
 admitted-well program c e =
-    let a = and-eq-true-iff (eqb (length program % 8) 0) (well-formed (rows-of program) && config-formed (rows-of program) c) .0 e in
-    let b = and-eq-true-iff (well-formed (rows-of program)) (config-formed (rows-of program) c) .0 (a .1) in
+    let b = and-eq-true-iff (well-formed (rows-of program)) (config-formed (rows-of program) c) .0 (given-admitted program c e) in
     let d = formed-shaped (rows-of program) c (b .1) in
     record { lawful-rows = lawful (rows-of program) (b .0); sound = d .0; shaped = d .1 }
 
@@ -85,22 +85,20 @@ admitted-words program c l e =
 
 -- the two tests of refusal 1
 pub program-refused : (program : List ℕ) (c : Configuration.Config) → program-formed program ≡ false → admitted program c ≡ false
-unfolding program-formed admitted given-well
-program-refused program c = at (eqb (length program % 8) 0) (well-formed (rows-of program)) (config-formed (rows-of program) c)
+unfolding program-formed admitted given-rows given-well
+program-refused program c = at (eqb (length program % 8) 0)
   where
-    at : (x y z : Bool) → (x && y) ≡ false → (x && (y && z)) ≡ false
-    at true true z e = clash refl e
-    at true false z e = refl
-    at false y z e = refl
+    at : (x : Bool) → (x && well-formed (rows-of program)) ≡ false → given-well (if x then rows-of program else no-row ∷ []) c ≡ false
+    at true e = ap (λ (b : Bool). b && config-formed (rows-of program) c) e
+    at false e = torn-refused c
 
 pub program-passed : (program : List ℕ) (c : Configuration.Config) → program-formed program ≡ true → admitted program c ≡ config-formed (rows-of program) c
-unfolding program-formed admitted given-well
-program-passed program c = at (eqb (length program % 8) 0) (well-formed (rows-of program)) (config-formed (rows-of program) c)
+unfolding program-formed admitted given-rows given-well
+program-passed program c = at (eqb (length program % 8) 0)
   where
-    at : (x y z : Bool) → (x && y) ≡ true → (x && (y && z)) ≡ z
-    at true true z e = refl
-    at true false z e = clash e refl
-    at false y z e = clash e refl
+    at : (x : Bool) → (x && well-formed (rows-of program)) ≡ true → given-well (if x then rows-of program else no-row ∷ []) c ≡ config-formed (rows-of program) c
+    at true e = ap (λ (b : Bool). b && config-formed (rows-of program) c) e
+    at false e = clash e refl
 
 pub program-lawful : (program : List ℕ) → program-formed program ≡ true → Lawful (rows-of program)
 unfolding program-formed

@@ -12,6 +12,7 @@ use Rattle.lists.specs.Lists.{In, first, when, every, count-up}
 use Rattle.lists.proofs.Lists.{test, clash, in-right}
 use Rattle.lists.proofs.Tests.{every-all, length-count-up}
 use Rattle.lists.proofs.Bind.{append-nil}
+use Rattle.model.specs.declared.Row.{Row}
 use Rattle.model.specs.Configuration.{Config, with-phase}
 use Rattle.model.specs.Graph.{Graph}
 use Rattle.model.specs.Deletion.{graph}
@@ -25,14 +26,14 @@ use Rattle.demands.proofs.Good.{Good, good-begin, good-rows}
 use Rattle.demands.proofs.DemandTwo.{Called, called-rows}
 use Rattle.state.specs.declared.Config as Declared
 use Rattle.sensing.specs.Sensing.{Ready, reading-at, readings-from, Shows, SensesRows}
-use Rattle.interpreter.specs.Calls.{conf, on-program, admitted, no-reading, readings-of}
-use Rattle.interpreter.proofs.Outcomes.{unless-true, unless-false, not-admitted, is-admitted, Admitted, admitted-well, admitted-words}
+use Rattle.interpreter.specs.Calls.{conf, given-rows, admitted, no-reading, readings-of}
+use Rattle.demands.proofs.Outcomes.{unless-true, unless-false}
+use Rattle.interpreter.proofs.Outcomes.{not-admitted, is-admitted, rows-admitted, Admitted, admitted-well, admitted-words}
 
 -- what is admitted is ready for work
 pub admitted-ready : (program : List ℕ) (c : Declared.Config) → length (c .words) ≡ 2432 → admitted program (conf c) ≡ true → Ready (c .words) (c .scalars)
 admitted-ready program c l e =
-    let w = admitted-words program c l e in
-    record { long = l; few-atoms = w .few-atoms; few-plans = w .few-plans; next-fits = admitted-well program (conf c) e .shaped .next-fits; sound = w .sound }
+    record { whole = admitted-words program c l e; next-fits = admitted-well program (conf c) e .shaped .next-fits }
 
 -- the rows of a slice
 readings-count : (words : List ℕ) → length (readings-from words 0 (length words / 4)) ≡ length words / 4
@@ -67,7 +68,7 @@ or-true false e = e
 
 module _ (program : List ℕ) (c : Config) (rows : List ℕ) where
   abbrev call : Outcome
-  call = on-program program (sense (rows-of program) c (readings-of rows))
+  call = sense (given-rows program) c (readings-of rows)
 
   abbrev work : Outcome
   work = and-then (sense-rows (rows-of program) (readings-of rows) (begin c)) (λ L. accepted (quiet (with-phase 1) L))
@@ -79,7 +80,10 @@ module _ (program : List ℕ) (c : Config) (rows : List ℕ) where
   module _ (a : admitted program c ≡ true) where
     past-1 : call ≡ unless (not (eqb (c .phase) 0) || not (eqb (c .waiting) 0)) 6 (unless (ltb 64 (length (readings-of rows)) || not (every in-range (readings-of rows))) 7 work)
     unfolding sense
-    past-1 = is-admitted program c _ a
+    past-1 = is-admitted program c _ a ∙ ap (λ (p : List Row). tested (and-then (sense-rows p (readings-of rows) (begin c)) (λ L. accepted (quiet (with-phase 1) L)))) (rows-admitted program c a)
+      where
+        tested : Outcome → Outcome
+        tested o = unless (not (eqb (c .phase) 0) || not (eqb (c .waiting) 0)) 6 (unless (ltb 64 (length (readings-of rows)) || not (every in-range (readings-of rows))) 7 o)
 
     pub sense-6-phase : c .phase ≢ 0 → call ≡ refused 6
     sense-6-phase z = past-1 ∙ unless-true _ 6 _ (ap (λ (b : Bool). not b || not (eqb (c .waiting) 0)) (ne-eqb (c .phase) 0 z))

@@ -8,3 +8,4 @@ pub mod Cuts
 pub mod Tables
 pub mod Bits
 pub mod Counted
+pub mod Search

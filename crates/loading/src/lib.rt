@@ -11,16 +11,6 @@ ghost use Rattle.program.specs.Rows.{rows-from};
 ghost use Rattle.state.specs.View.{config-of};
 ghost use Rattle.loading.specs.Starting.{Room, Taken, seen, starting};
 
-// "0 and up a constant": operands are held 9 higher.
-fn constant(x: u32) -> u32
-    ensures { λ r. ⌜ r ≡ x - 9 ⌝ }
-{
-    if x < 9 {
-        return 0;
-    }
-    x - 9
-}
-
 // "op 41 an initial atom p, a, b": what the row adds to the configuration.
 fn take_initial(words: &mut [u32], scalars: Scalars, r: Row) -> Scalars
     requires { ⌜ Room (now words) scalars r ⌝ }
@@ -32,7 +22,13 @@ fn take_initial(words: &mut [u32], scalars: Scalars, r: Row) -> Scalars
     if r.op != 41 {
         return scalars;
     }
-    state::append_atom(words, scalars, r.p, constant(r.a), constant(r.b))
+    state::append_atom(
+        words,
+        scalars,
+        r.p,
+        model::constant(r.a),
+        model::constant(r.b),
+    )
 }
 
 // "A fresh configuration .. then takes the program's initial atoms in row order."

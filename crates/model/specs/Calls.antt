@@ -6,7 +6,7 @@ use lib.Dec.{leb, ltb, eqb}
 use lib.ListN.{length, set}
 use Rattle.lists.specs.Lists.{if_then_else_, within, keep, every, some}
 use Rattle.model.specs.Program.{Row, variable?, constant, sets, is-object, body}
-use Rattle.model.specs.Configuration.{Atom, Plan, Config, most-atoms, most-plans, last-next, place, operand, scheduled, stepped, failed, has-flag, with-flag, without-flag, remainder, atom-alive, plan-alive, with-flags, step-removed, with-phase, with-waiting, change-plan}
+use Rattle.model.specs.Configuration.{Atom, Plan, Config, most-atoms, most-plans, last-next, place, operand, scheduled, stepped, failed, has-flag, with-flag, without-flag, remainder, atom-alive, plan-alive, equal-to, with-flags, step-removed, with-phase, with-waiting, change-plan}
 use Rattle.model.specs.WellFormed.{given-well}
 use Rattle.model.specs.Matching.{Found, justifications-of, Firing, firing}
 use Rattle.model.specs.Log.{nothing, an-atom, a-plan, How, empty, held, done, fired, moved-on, executed, waits, cycle-ended, Log, begin, emit-atom, emit-plan, emit-subgoal, emit-deletion, quiet, report, Outcome, refused, accepted, and-then, unless}
@@ -47,7 +47,7 @@ taken-as program r = replaced (r .p) (keep (applies r) program)
 
 -- "A withdrawal deletes each live equal atom, lowest id first."
 unfoldable pub equal-atoms : ℕ → ℕ → ℕ → Config → List ℕ
-equal-atoms p a b c = map (λ (x : Atom). x .id) (keep (λ (x : Atom). eqb (x .p) p && (eqb (x .a) a && eqb (x .b) b)) (c .atoms))
+equal-atoms p a b c = map (λ (x : Atom). x .id) (keep (equal-to p a b) (c .atoms))
 
 unfoldable pub withdraw-if : Bool → ℕ → Log → Log
 withdraw-if true t L = emit-deletion t L
@@ -170,7 +170,7 @@ unfoldable pub fail : ℕ → Log → Outcome
 fail k L = accepted (report (executed k Log.failed) (quiet (λ c. set-stepped k (set-failed k c)) L))
 
 unfoldable pub exists-atom : ℕ → ℕ → ℕ → Config → Bool
-exists-atom p a b c = some (λ (x : Atom). eqb (x .p) p && (eqb (x .a) a && eqb (x .b) b)) (c .atoms)
+exists-atom p a b c = some (equal-to p a b) (c .atoms)
 
 -- "31: the plan waits. 32, 33: if it holds the step is removed, else failed is set. 34: atom made, step removed. 35: step removed,
 -- then the deletion ..; if i is no live atom, failed is set and the step stays. 36: atom made and linked; the step stays while the link does."

@@ -1,6 +1,6 @@
 -- "The configuration": atom and plan instances, each list in rising id (DECISIONS 31), and the scalars.
 use Prim.Native.Nat.{ℕ, suc, _+_, _-_, _/_, _%_, _^_}
-use mathlib.Core.Bool.{Bool}
+use mathlib.Core.Bool.{Bool, _&&_}
 use mathlib.Core.List.{List, [], _∷_, _++_, map}
 use lib.Dec.{eqb}
 use lib.ListN.{length, getD, drop, replicate}
@@ -99,6 +99,10 @@ atom-alive c n = member n (atom-ids c)
 
 unfoldable pub plan-alive : Config → ℕ → Bool
 plan-alive c n = member n (plan-ids c)
+
+-- the atom is p(a, b)
+abbrev pub equal-to : ℕ → ℕ → ℕ → Atom → Bool
+equal-to p a b x = eqb (x .p) p && (eqb (x .a) a && eqb (x .b) b)
 
 -- changes of one plan
 abbrev pub with-flags : (ℕ → ℕ) → Plan → Plan

@@ -6,7 +6,7 @@ use lib.Dec.{leb, ltb, eqb}
 use lib.ListN.{length}
 use Rattle.lists.specs.Lists.{all-true, every, some, in-pairs, rises, member, first-of}
 use Rattle.model.specs.Program.{Row, variable?, sets, is-object, body}
-use Rattle.model.specs.Configuration.{Atom, Plan, Config, most-atoms, most-plans, last-next, no-value, value-of, operand, remainder}
+use Rattle.model.specs.Configuration.{Atom, Plan, Config, most-atoms, most-plans, last-next, no-value, value-of, operand, remainder, equal-to}
 use Rattle.model.specs.Graph.{Node, Graph, node-ids}
 use Rattle.model.specs.Deletion.{graph}
 use Rattle.model.specs.Render.{well-formed}
@@ -47,7 +47,7 @@ row-has-values values r = has-value values (r .i) && (has-value values (r .a) &&
 
 -- "a subgoal step equal to that atom"
 unfoldable pub makes-atom : List ℕ → Row → Atom → Bool
-makes-atom values r x = eqb (x .p) (r .p) && (eqb (x .a) (operand values (r .a)) && eqb (x .b) (operand values (r .b)))
+makes-atom values r = equal-to (r .p) (operand values (r .a)) (operand values (r .b))
 
 unfoldable pub is-subgoal-step : Config → Plan → Row → Bool
 is-subgoal-step c q r = eqb (r .op) 36 && some (λ x. eqb (x .id) (q .subgoal) && makes-atom (q .values) r x) (c .atoms)

@@ -1,4 +1,6 @@
 // The plain data that text, program and interpreter share. What they mean stands in specs/.
+ghost use mathlib.Core.Path.{_≡_};
+ghost use Rattle.model.specs.Program.{constant as constant-of};
 ghost use Rattle.model.specs.Tables.{KeysHold, CasesHold};
 
 // A row of a program text. Columns i, a and b hold operands, each 9 higher than written, so that no number is negative.
@@ -37,6 +39,16 @@ pub struct Scan {
     pub object: bool,
     pub valued: [u8; 9],
     pub ceilings: [u8; 256],
+}
+
+// "0 and up a constant": the number that a constant operand stands for.
+pub fn constant(x: u32) -> u32
+    ensures { λ r. ⌜ r ≡ constant-of x ⌝ }
+{
+    if x < 9 {
+        return 0;
+    }
+    x - 9
 }
 
 // Does nothing: it promises the tables, so that no check passes without their facts.

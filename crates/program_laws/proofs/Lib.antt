@@ -8,3 +8,4 @@ pub mod Parts
 pub mod Scanned
 pub mod Lawful
 pub mod Rows
+pub mod Sets

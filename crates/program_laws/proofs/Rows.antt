@@ -126,6 +126,14 @@ action-of r h t e = ⊎-elim (λ q. ⊎-elim adds deletes (or-cases _ _ q)) flag
           flag = λ z. search parts;
         }
 
+-- "23 set and 24 clear flag a (constant 1 to 16)"
+pub action-flag : (r : Row) → ActionRow r → (r .op ≡ 23) ⊎ (r .op ≡ 24) → (1 ≤ constant (r .a)) × (constant (r .a) ≤ 16)
+action-flag r a o =
+    let f = a .flag o in
+    let low : 10 ≤ r .a = leb-true _ _ (search parts) in
+    let high : r .a ≤ 25 = leb-true _ _ (search parts) in
+    omega arith
+
 -- "Columns i, a, b of rules are operands": a constant is at most 65,535
 pub constant-small : (x : ℕ) → x ≤ 65544 → constant x ≤ 65535
 constant-small x h = omega arith

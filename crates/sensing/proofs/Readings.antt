@@ -7,21 +7,16 @@ use Prim.Native.Nat.{ℕ, suc, _+_, _-_, _≤_, _<_}
 use native.Mathlib.Omega.{arith}
 use lib.Dec.{eqb, leb}
 use lib.ListN.{length}
-use borrow.Author.Tests.{eq-eqb, ne-eqb, eqb-false, leb-false}
-use Rattle.lists.proofs.Tables.{tabulate-length}
+use borrow.Author.Tests.{eq-eqb, ne-eqb}
 use Rattle.state.specs.declared.Scalars.{Scalars}
-use Rattle.state.specs.View.{atom-at, config-of, atom-counted}
-use Rattle.model.specs.Graph.{Sound}
-use Rattle.model.specs.Deletion.{graph}
-use Rattle.model.specs.Events.{atom-made}
-use Rattle.graph_laws.proofs.Keeps.{keeps}
-use Rattle.graph_laws.proofs.Turns.{turns-atom}
+use Rattle.state.specs.View.{config-of, atom-counted, atom-bar}
+use Rattle.deletion.proofs.Sound.{sound-added}
 use Rattle.lists.specs.Lists.{if_then_else_, every}
 use Rattle.model.specs.declared.Row.{Row}
 use Rattle.model.specs.Configuration.{Config, add-atom}
 use Rattle.model.specs.Log.{Log, emit-atom, Outcome, refused, accepted, unless, and-then}
 use Rattle.model.specs.Calls.{Reading, taken-as, equal-atoms, withdraw, room-for-atom, make-atom, sense-row, sense-rows}
-use Rattle.sensing.specs.Sensing.{reading-at, readings-from, Ready, Shows, Withdraws, atom-bar, SensesRow, SensesRows}
+use Rattle.sensing.specs.Sensing.{reading-at, readings-from, Ready, Shows, Withdraws, SensesRow, SensesRows}
 
 module _ (program : List Row) (r : Reading) (c : Config) where
   added : r .sign ≡ 1 → (L : Log) → L .config ≡ c → (x y : Bool) → eqb (c .next) 65536 ≡ x → leb 256 (length (c .atoms)) ≡ y → (number : ℕ) → (if x then 8 else if y then 9 else 0) ≡ number → (d : Config) →
@@ -45,26 +40,11 @@ module _ (program : List Row) (r : Reading) (c : Config) where
   unfolding SensesRow sense-row
   senses-withdrawal e d gone w L q = rw (ne-eqb (r .sign) 1 e) (refl, ap (λ (x : Config). withdraw (equal-atoms (taken-as program r) (r .a) (r .b) x) L .config) q ∙ w .leaves L q, ap (λ (x : Config). withdraw (equal-atoms (taken-as program r) (r .a) (r .b) x) L .gone) q ∙ w .counts L q)
 
--- the limits, from the scalars
-pub atoms-of-bar : (words : List ℕ) (s : Scalars) → atom-bar (config-of words s .next) (length (config-of words s .atoms)) ≡ atom-bar (s .next) (s .atoms)
-atoms-of-bar words s = ap (atom-bar (s .next)) (tabulate-length (s .atoms) (atom-at words))
-
-pub bar-free : (n m : ℕ) → atom-bar n m ≡ 0 → (n ≢ 65536) × (m < 256)
-bar-free n m = at (eqb n 65536) (leb 256 m) refl refl
-  where
-    at : (x y : Bool) → eqb n 65536 ≡ x → leb 256 m ≡ y → _≡_ {A = ℕ} (if x then 8 else if y then 9 else 0) 0 → (n ≢ 65536) × (m < 256)
-    at true y p q e = absurd (omega arith)
-    at false true p q e = absurd (omega arith)
-    at false false p q e = (eqb-false n 65536 p, leb-false 256 m q)
-
 -- the words after an atom was made
 pub ready-added : (words words′ : List ℕ) (s s′ : Scalars) (p a b : ℕ) → Ready words s → s .atoms < 256 → s .next < 65536 → length words′ ≡ 2432 → s′ ≡ atom-counted s → config-of words′ s′ ≡ add-atom p a b (config-of words s) → Ready words′ s′
 ready-added words words′ s s′ p a b r h k l q e = record {
-  long = l;
-  few-atoms = let z : s′ .atoms ≡ s .atoms + 1 = ap (λ (x : Scalars). x .atoms) q in omega arith;
-  few-plans = let z : s′ .plans ≡ s .plans = ap (λ (x : Scalars). x .plans) q in omega (arith, r .few-plans);
+  whole = sound-added words words′ s s′ (r .whole) l p a b h q e;
   next-fits = let z : s′ .next ≡ s .next + 1 = ap (λ (x : Scalars). x .next) q in omega arith;
-  sound = subst Sound (sym (ap graph e ∙ turns-atom p a b (config-of words s))) (keeps (graph (config-of words s)) atom-made (r .sound) tt);
 }
 
 -- ROWS IN TURN

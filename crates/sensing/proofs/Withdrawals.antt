@@ -4,25 +4,23 @@ use mathlib.Core.Bool.{Bool, true, false, not, true≢false}
 use mathlib.Core.List.{List, [], _∷_, map}
 use Prim.Native.Nat.{ℕ, zero, suc, _+_, _<_, _≤_}
 use native.Mathlib.Omega.{arith}
-use lib.ListN.{length, drop, drop-of-length-le, length-map}
+use lib.ListN.{length, drop, drop-of-length-le}
 use Rattle.lists.specs.Lists.{In, first, later, Pairs, put, keep, is-empty}
 use Rattle.lists.proofs.Lists.{clash, in-map, map-in, in-cast, keep-in, in-member, out-member, member-out, map-keep, count-keep}
 use Rattle.lists.proofs.Tests.{map-pairs}
 use Rattle.lists.proofs.Tables.{tabulate-length, tabulate-from}
 use Rattle.model.specs.declared.Atom.{Atom}
-use Rattle.model.specs.Configuration.{Plan, Config, atom-ids, atom-alive}
+use Rattle.model.specs.Configuration.{Config, equal-to, atom-ids, atom-alive}
 use Rattle.model.specs.Graph.{Graph, links, Reach, here, onward, reached, survives, Sound}
-use Rattle.model.specs.Deletion.{node, graph, links-in, remove, plan-without}
-use Rattle.model.specs.Events.{deletion, change, gone-by}
+use Rattle.model.specs.Deletion.{graph, links-in, remove}
+use Rattle.model.specs.Events.{deletion, gone-by}
 use Rattle.model.specs.Log.{Log, emit-deletion}
 use Rattle.model.specs.Calls.{equal-atoms, withdraw-if, withdraw}
 use Rattle.state.specs.declared.Scalars.{Scalars}
-use Rattle.state.specs.View.{atom-at, plan-at, config-of}
+use Rattle.state.specs.View.{atom-at, config-of, SoundWords}
 use Rattle.graph_laws.proofs.Links.{graph-links, reached-is}
-use Rattle.graph_laws.proofs.Keeps.{keeps}
-use Rattle.graph_laws.proofs.Turns.{turns-remove}
-use Rattle.graph_laws.proofs.Count.{change-size}
-use Rattle.sensing.specs.Sensing.{equal-to, Ready, Withdraws}
+use Rattle.deletion.proofs.Sound.{counts-after}
+use Rattle.sensing.specs.Sensing.{Ready, Withdraws}
 
 -- the equal atoms from place k on
 unfoldable pub equal-from : ℕ → ℕ → ℕ → ℕ → Config → List ℕ
@@ -162,57 +160,9 @@ pub record Withdrawing (p a b : ℕ) (c : Config) (total : ℕ) (words : List �
   pub rest : (L : Log) → L .config ≡ c → (M : Log) × (M .config ≡ config-of words s) × (M .gone ≡ L .gone + gone) × (withdraw (equal-atoms p a b c) L ≡ withdraw (equal-from p a b k (M .config)) M)
 
 -- the words after a deletion
-module _ (words words′ : List ℕ) (s s′ : Scalars) (t : ℕ) (r : Ready words s) (l : length words′ ≡ 2432) (e : config-of words′ s′ ≡ remove t (config-of words s)) where
-  abbrev C : Config
-  C = config-of words s
-
-  abbrev C′ : Config
-  C′ = config-of words′ s′
-
-  sizes : length (C′ .atoms) + length (map node (C′ .plans)) + gone-by (graph C) (deletion t) ≡ length (C .atoms) + length (map node (C .plans))
-  sizes =
-      let h = change-size (graph C) (deletion t) in
-      let g : graph C′ ≡ change (graph C) (deletion t) = ap graph e ∙ turns-remove t C in
-      let i : length (graph C′ .atoms) ≡ length (change (graph C) (deletion t) .atoms) = ap (λ (x : Graph). length (x .atoms)) g in
-      let j : length (graph C′ .plans) ≡ length (change (graph C) (deletion t) .plans) = ap (λ (x : Graph). length (x .plans)) g in
-      let m : length (graph C′ .atoms) ≡ length (C′ .atoms) = length-map (C′ .atoms) (λ (x : Atom). x .id) in
-      let n : length (graph C .atoms) ≡ length (C .atoms) = length-map (C .atoms) (λ (x : Atom). x .id) in
-      omega arith
-
-  pub counts-after : s′ .atoms + s′ .plans + gone-by (graph C) (deletion t) ≡ s .atoms + s .plans
-  counts-after =
-      let h = sizes in
-      let i : length (C′ .atoms) ≡ s′ .atoms = tabulate-length (s′ .atoms) (atom-at words′) in
-      let j : length (C .atoms) ≡ s .atoms = tabulate-length (s .atoms) (atom-at words) in
-      let m : length (map node (C′ .plans)) ≡ s′ .plans = length-map (C′ .plans) node ∙ tabulate-length (s′ .plans) (plan-at words′) in
-      let n : length (map node (C .plans)) ≡ s .plans = length-map (C .plans) node ∙ tabulate-length (s .plans) (plan-at words) in
-      omega arith
-
-  atoms-fewer : s′ .atoms ≤ s .atoms
-  atoms-fewer =
-      let i : length (C′ .atoms) ≡ s′ .atoms = tabulate-length (s′ .atoms) (atom-at words′) in
-      let j : length (C .atoms) ≡ s .atoms = tabulate-length (s .atoms) (atom-at words) in
-      let k = count-keep (λ (x : Atom). survives (reached (links-in C) t) (x .id)) (C .atoms) in
-      let q : length (C′ .atoms) ≡ length (keep (λ (x : Atom). survives (reached (links-in C) t) (x .id)) (C .atoms)) = ap (λ (d : Config). length (d .atoms)) e in
-      omega arith
-
-  plans-fewer : s′ .plans ≤ s .plans
-  plans-fewer =
-      let i : length (C′ .plans) ≡ s′ .plans = tabulate-length (s′ .plans) (plan-at words′) in
-      let j : length (C .plans) ≡ s .plans = tabulate-length (s .plans) (plan-at words) in
-      let k = count-keep (λ (q : Plan). survives (reached (links-in C) t) (q .id)) (C .plans) in
-      let q : length (C′ .plans) ≡ length (map (plan-without (reached (links-in C) t)) (keep (λ (q : Plan). survives (reached (links-in C) t) (q .id)) (C .plans))) = ap (λ (d : Config). length (d .plans)) e in
-      let m = length-map (keep (λ (q : Plan). survives (reached (links-in C) t) (q .id)) (C .plans)) (plan-without (reached (links-in C) t)) in
-      omega arith
-
-  pub ready-after : Ready words′ s′
-  ready-after = record {
-    long = l;
-    few-atoms = let h = atoms-fewer in omega (arith, r .few-atoms);
-    few-plans = let h = plans-fewer in omega (arith, r .few-plans);
-    next-fits = let h : s′ .next ≡ s .next = ap (λ (d : Config). d .next) e in omega (arith, r .next-fits);
-    sound = subst Sound (sym (ap graph e ∙ turns-remove t C)) (keeps (graph C) (deletion t) (r .sound) tt);
-  }
+module _ (words words′ : List ℕ) (s s′ : Scalars) (t : ℕ) (e : config-of words′ s′ ≡ remove t (config-of words s)) where
+  pub ready-after : Ready words s → SoundWords words′ s′ → Ready words′ s′
+  ready-after r w = record { whole = w; next-fits = let h : s′ .next ≡ s .next = ap (λ (d : Config). d .next) e in omega (arith, r .next-fits) }
 
 module _ (p a b : ℕ) (c : Config) (total : ℕ) (words : List ℕ) (s : Scalars) where
   place : (k : ℕ) → k < s .atoms → drop k (config-of words s .atoms) ≡ atom-at words k ∷ drop (k + 1) (config-of words s .atoms)
@@ -242,14 +192,14 @@ module _ (p a b : ℕ) (c : Config) (total : ℕ) (words : List ℕ) (s : Scalar
 
   -- atom k goes, with all that it leads to
   module _ (words′ : List ℕ) (s′ : Scalars) (gone k n : ℕ) (w : Withdrawing p a b c total words s gone k) (h : k < s .atoms) (d : equal-to p a b (atom-at words k) ≡ true)
-      (l : length words′ ≡ 2432) (e : config-of words′ s′ ≡ remove (atom-at words k .id) (config-of words s)) (m : n ≡ gone-by (graph (config-of words s)) (deletion (atom-at words k .id))) where
+      (v : SoundWords words′ s′) (e : config-of words′ s′ ≡ remove (atom-at words k .id) (config-of words s)) (m : n ≡ gone-by (graph (config-of words s)) (deletion (atom-at words k .id))) where
     -- the places below k stay, and one goes
     pub fewer : (k ≤ s′ .atoms) × (s′ .atoms < s .atoms)
     fewer =
         let C : Config = config-of words s in
         let D : List ℕ = reached (links-in C) (atom-at words k .id) in
-        let r = kept-some (λ (y : Atom). survives D (y .id)) (C .atoms) (map-pairs (λ (u v : ℕ). u < v) (λ (y : Atom). y .id) (C .atoms) (w .ready .sound .atoms-rise)) k (atom-at words k) (drop (k + 1) (C .atoms)) (place k h)
-        (λ y z. below-survives (graph C) (w .ready .sound) (atom-at words k .id) (y .id) z) (target-goes (graph C) (w .ready .sound) (atom-at words k .id)) in
+        let r = kept-some (λ (y : Atom). survives D (y .id)) (C .atoms) (map-pairs (λ (u v : ℕ). u < v) (λ (y : Atom). y .id) (C .atoms) (w .ready .whole .sound .atoms-rise)) k (atom-at words k) (drop (k + 1) (C .atoms)) (place k h)
+        (λ y z. below-survives (graph C) (w .ready .whole .sound) (atom-at words k .id) (y .id) z) (target-goes (graph C) (w .ready .whole .sound) (atom-at words k .id)) in
         let i : length (config-of words′ s′ .atoms) ≡ s′ .atoms = tabulate-length (s′ .atoms) (atom-at words′) in
         let j : length (C .atoms) ≡ s .atoms = tabulate-length (s .atoms) (atom-at words) in
         let q : length (config-of words′ s′ .atoms) ≡ length (keep (λ (x : Atom). survives D (x .id)) (C .atoms)) = ap (λ (d : Config). length (d .atoms)) e in
@@ -261,14 +211,14 @@ module _ (p a b : ℕ) (c : Config) (total : ℕ) (words : List ℕ) (s : Scalar
       emit-deletion (atom-at words k .id) M,
       ap (remove (atom-at words k .id)) f ∙ sym e,
       (let i : gone-by (graph (M .config)) (deletion (atom-at words k .id)) ≡ gone-by (graph (config-of words s)) (deletion (atom-at words k .id)) = ap (λ (x : Config). gone-by (graph x) (deletion (atom-at words k .id))) f in omega arith),
-      z ∙ withdraw-one p a b M (subst (λ (x : Config). Sound (graph x)) (sym f) (w .ready .sound)) k (atom-at words k) (subst (λ (x : Config). drop k (x .atoms) ≡ atom-at words k ∷ drop (k + 1) (x .atoms)) (sym f) (place k h)) d,
+      z ∙ withdraw-one p a b M (subst (λ (x : Config). Sound (graph x)) (sym f) (w .ready .whole .sound)) k (atom-at words k) (subst (λ (x : Config). drop k (x .atoms) ≡ atom-at words k ∷ drop (k + 1) (x .atoms)) (sym f) (place k h)) d,
     )
 
     pub withdrawing-take : Withdrawing p a b c total words′ s′ (gone + n) k
     withdrawing-take = record {
-      ready = ready-after words words′ s s′ (atom-at words k .id) (w .ready) l e;
+      ready = ready-after words words′ s s′ (atom-at words k .id) e (w .ready) v;
       inside = fewer .0;
-      sum = let z = counts-after words words′ s s′ (atom-at words k .id) (w .ready) l e in omega (arith, w .sum, m);
+      sum = let z = counts-after words words′ s s′ (atom-at words k .id) e in omega (arith, w .sum, m);
       rest = λ L q. went (w .rest L q .0) (w .rest L q .1) L (w .rest L q .2) (w .rest L q .3);
     }
 

@@ -9,7 +9,7 @@ ghost use Rattle.lists.specs.Lists.{every};
 ghost use Rattle.program.specs.Rows.{row-at, rows-of};
 ghost use Rattle.state.specs.View.{atom-at, config-of};
 ghost use Rattle.model.specs.Calls.{in-range as is-in-range, applies as does-apply, taken-as};
-ghost use Rattle.sensing.specs.Sensing.{reading-of, reading-at, equal-to, readings-from, Ready, Withdraws, atom-bar, SensesRow, SensesRows};
+ghost use Rattle.sensing.specs.Sensing.{reading-of, reading-at, readings-from, Ready, Withdraws, SensesRow, SensesRows};
 
 // A row of sense.
 pub struct Reading {
@@ -26,16 +26,6 @@ pub struct Work {
     pub number: u32,
 }
 
-// The number that an operand stands for.
-fn constant(x: u32) -> u32
-    ensures { λ r. ⌜ r ≡ x - 9 ⌝ }
-{
-    if x < 9 {
-        return 0;
-    }
-    x - 9
-}
-
 // The ceiling in row k applies to the reading.
 fn applies(program: &[u32], k: usize, reading: Reading) -> bool
     requires { ⌜ k * 8 + 8 ≤ length (now program) ⌝ }
@@ -45,7 +35,7 @@ fn applies(program: &[u32], k: usize, reading: Reading) -> bool
     let set = program[at];
     let op = program[at + 3];
     let p = program[at + 5];
-    let a = constant(program[at + 6]);
+    let a = model::constant(program[at + 6]);
     (set == 0) & ((op == 40) & ((p == reading.p) & (a <= reading.b)))
 }
 
@@ -57,20 +47,11 @@ pub fn taken_as(program: &[u32], reading: Reading) -> u32
     let mut k: usize = 0;
     while k < n {
         if applies(program, k, reading) {
-            return constant(program[k * 8 + 7]);
+            return model::constant(program[k * 8 + 7]);
         }
         k += 1;
     }
     reading.p
-}
-
-// Atom k is p(a, b).
-fn is_equal(words: &[u32], k: usize, p: u32, a: u32, b: u32) -> bool
-    requires { ⌜ (length (now words) ≡ 2432) × (k < 256) ⌝ }
-    ensures { λ r. ⌜ r ≡ equal-to p a b (atom-at (now (words .entry)) k) ⌝ }
-{
-    let x = state::atom_at(words, k);
-    (x.p == p) & ((x.a == a) & (x.b == b))
 }
 
 // "A withdrawal deletes each live equal atom, lowest id first."
@@ -83,7 +64,7 @@ pub fn withdraw(words: &mut [u32], scalars: Scalars, p: u32, a: u32, b: u32) -> 
     let mut gone: u32 = 0;
     let mut k: usize = 0;
     while k < s.atoms as usize {
-        if is_equal(words, k, p, a, b) {
+        if state::is_equal(words, k, p, a, b) {
             let x = state::atom_at(words, k);
             let r = deletion::remove(words, s, x.id);
             let left = r.scalars;
@@ -96,19 +77,6 @@ pub fn withdraw(words: &mut [u32], scalars: Scalars, p: u32, a: u32, b: u32) -> 
     Removal { scalars: s, gone }
 }
 
-// "one more needed": 8 before 9, or 0.
-pub fn room_for_atom(scalars: Scalars) -> u32
-    ensures { λ r. ⌜ r ≡ atom-bar (scalars .next) (scalars .atoms) ⌝ }
-{
-    if scalars.next == 65536 {
-        return 8;
-    }
-    if 256 <= scalars.atoms {
-        return 9;
-    }
-    0
-}
-
 // One row of sense.
 pub fn sense_row(program: &[u32], words: &mut [u32], scalars: Scalars, reading: Reading) -> Work
     requires { ⌜ Ready (now words) scalars ⌝ }
@@ -117,7 +85,7 @@ pub fn sense_row(program: &[u32], words: &mut [u32], scalars: Scalars, reading: 
 {
     let p = taken_as(program, reading);
     if reading.sign == 1 {
-        let bar = room_for_atom(scalars);
+        let bar = state::room_for_atom(scalars);
         if bar != 0 {
             return Work {
                 scalars,

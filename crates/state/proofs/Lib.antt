@@ -3,3 +3,4 @@ pub mod View
 pub mod Made
 pub mod Changed
 pub mod Live
+pub mod Room

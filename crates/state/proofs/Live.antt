@@ -3,15 +3,16 @@ use mathlib.Core.Path.{_≡_, refl, ap, sym, _∙_}
 use mathlib.Core.List.{List, map}
 use mathlib.Core.Logic.{_≢_}
 use Prim.Native.Nat.{ℕ, _<_, _≤_}
-use lib.ListN.{length, getD}
+use lib.Dec.{ltb}
+use lib.ListN.{length, getD, length-map}
 use borrow.Author.Tests.{eq-eqb}
 use Rattle.lists.specs.Tables.{tabulate, index-of}
 use Rattle.lists.proofs.Tests.{map-pairs}
-use Rattle.lists.proofs.Tables.{tabulate-length, tabulate-at, tabulate-map, index-tabulated, index-missing}
+use Rattle.lists.proofs.Tables.{tabulate-length, tabulate-at, tabulate-map, index-tabulated, index-missing, index-member}
 use Rattle.model.specs.Graph.{Node, Sound}
 use Rattle.model.specs.Deletion.{node, graph}
 use Rattle.model.specs.declared.Atom.{Atom}
-use Rattle.model.specs.Configuration.{Plan, Config, at-plan, change-plan}
+use Rattle.model.specs.Configuration.{Plan, Config, atom-alive, plan-alive, at-plan, change-plan}
 use Rattle.state.specs.declared.Scalars.{Scalars}
 use Rattle.state.specs.View.{atom-at, plan-at, atoms-of, plans-of, config-of, atom-ids-of, plan-ids-of, AtomsRise, PlansRise, SoundWords, LivePlan}
 
@@ -52,6 +53,20 @@ module _ (n : ℕ) (W : List ℕ) (x : ℕ) where
 
   pub missing-plan : n ≤ index-of x (plan-ids-of n W) → (k : ℕ) → k < n → plan-at W k .id ≢ x
   missing-plan = rw (← plan-ids-are) (index-missing n (λ (k : ℕ). plan-at W k .id) x)
+
+-- an id is alive exactly if it is found
+module _ (W : List ℕ) (s : Scalars) (x : ℕ) where
+  pub found-atom-alive : ltb (index-of x (atom-ids-of (s .atoms) W)) (s .atoms) ≡ atom-alive (config-of W s) x
+  unfolding atom-alive
+  found-atom-alive =
+      let ids : List ℕ = atom-ids-of (s .atoms) W in
+      ap (ltb (index-of x ids)) (sym (length-map (atoms-of (s .atoms) W) (λ (a : Atom). a .id) ∙ atoms-counted W s)) ∙ index-member x ids
+
+  pub found-plan-alive : ltb (index-of x (plan-ids-of (s .plans) W)) (s .plans) ≡ plan-alive (config-of W s) x
+  unfolding plan-alive
+  found-plan-alive =
+      let ids : List ℕ = plan-ids-of (s .plans) W in
+      ap (ltb (index-of x ids)) (sym (length-map (plans-of (s .plans) W) (λ (q : Plan). q .id) ∙ plans-counted W s)) ∙ index-member x ids
 
 -- the plan that was changed
 pub plan-after : (W X : List ℕ) (s : Scalars) (k : ℕ) (f : Plan → Plan) → k < s .plans → config-of X s ≡ change-plan (plan-at W k .id) f (config-of W s) → plan-at X k ≡ f (plan-at W k)

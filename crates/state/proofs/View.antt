@@ -54,15 +54,23 @@ module _ (l : List ℕ) (k : ℕ) where
       let r = row 18 (drop 1280 l) k in
       sym (trimmed-at (take 4 (drop 6 r)) j ∙ getD-take 4 (drop 6 r) j 0 h ∙ getD-drop 6 r j 0)
 
-  pub plan-value-is : (i : ℕ) → i < 8 → k < 64 → length l ≡ 2432 → plan-word l k (10 + i) ≡ getD (plan-at l k .values) i no-value
-  unfolding plan-at
-  plan-value-is i h hk long =
-      let r = row 18 (drop 1280 l) k in
-      let z : length (drop 1280 l) ≡ length l - 1280 = length-drop 1280 l in
-      let lr : length r ≡ 18 = row-long 18 (drop 1280 l) k (omega arith) in
-      let ld : length (drop 10 r) ≡ length r - 10 = length-drop 10 r in
-      let lv : length (take 8 (drop 10 r)) ≡ 8 = length-take-le 8 (drop 10 r) (omega arith) in
-      sym (getD-take 8 (drop 10 r) i 0 h ∙ getD-drop 10 r i 0) ∙ get-within (take 8 (drop 10 r)) i 0 no-value (omega arith)
+  module _ (long : length l ≡ 2432) (few : k < 64) where
+    pub plan-words-long : length (row 18 (drop 1280 l) k) ≡ 18
+    plan-words-long = let z : length (drop 1280 l) ≡ length l - 1280 = length-drop 1280 l in row-long 18 (drop 1280 l) k (omega arith)
+
+    pub values-long : length (plan-at l k .values) ≡ 8
+    unfolding plan-at
+    values-long =
+        let z = plan-words-long in
+        let d = length-drop 10 (row 18 (drop 1280 l) k) in
+        length-take-le 8 (drop 10 (row 18 (drop 1280 l) k)) (omega arith)
+
+    pub plan-value-is : (i : ℕ) → i < 8 → plan-word l k (10 + i) ≡ getD (plan-at l k .values) i no-value
+    unfolding plan-at
+    plan-value-is i h =
+        let r = row 18 (drop 1280 l) k in
+        let v = values-long in
+        sym (getD-take 8 (drop 10 r) i 0 h ∙ getD-drop 10 r i 0) ∙ get-within (take 8 (drop 10 r)) i 0 no-value (omega arith)
 
 -- ids are the first words
 pub atom-keys : (n : ℕ) (l : List ℕ) → keys 5 n l ≡ atom-ids-of n l

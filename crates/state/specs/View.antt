@@ -2,12 +2,13 @@
 use mathlib.Core.Path.{_≡_}
 use mathlib.Core.List.{List, [], _∷_, map}
 use Prim.Native.Nat.{ℕ, _+_, _*_, _<_, _≤_}
+use lib.Dec.{eqb, leb}
 use lib.ListN.{length, take, drop, getD, set}
-use Rattle.lists.specs.Lists.{Pairs}
+use Rattle.lists.specs.Lists.{if_then_else_, Pairs}
 use Rattle.lists.specs.Tables.{tabulate, trimmed}
 use Rattle.table.specs.Rows.{row}
 use Rattle.model.specs.declared.Atom.{Atom}
-use Rattle.model.specs.Configuration.{Plan, Config}
+use Rattle.model.specs.Configuration.{Plan, Config, most-atoms, most-plans, last-next}
 use Rattle.model.specs.Graph.{Sound}
 use Rattle.model.specs.Deletion.{graph}
 use Rattle.state.specs.declared.Scalars.{Scalars}
@@ -93,6 +94,9 @@ plan-counted s = record { phase = s .phase; cycle = s .cycle; next = s .next + 1
 abbrev pub phase-put : ℕ → Scalars → Scalars
 phase-put n s = record { phase = n; cycle = s .cycle; next = s .next; waiting = s .waiting; atoms = s .atoms; plans = s .plans }
 
+abbrev pub cycle-put : Scalars → Scalars
+cycle-put s = record { phase = 0; cycle = s .cycle + 1; next = s .next; waiting = s .waiting; atoms = s .atoms; plans = s .plans }
+
 abbrev pub waiting-put : ℕ → Scalars → Scalars
 waiting-put n s = record { phase = s .phase; cycle = s .cycle; next = s .next; waiting = n; atoms = s .atoms; plans = s .plans }
 
@@ -111,3 +115,10 @@ with-plan-word words k column v = set words (1280 + (k * 18 + column)) v
 abbrev pub plan-numbers : ℕ → ℕ → ℕ → ℕ → List ℕ → List ℕ → List ℕ
 plan-numbers id s n left js vs = id ∷ s ∷ n ∷ left ∷ 0 ∷ 0 ∷ getD js 0 0 ∷ getD js 1 0 ∷ getD js 2 0 ∷ getD js 3 0 ∷
     getD vs 0 0 ∷ getD vs 1 0 ∷ getD vs 2 0 ∷ getD vs 3 0 ∷ getD vs 4 0 ∷ getD vs 5 0 ∷ getD vs 6 0 ∷ getD vs 7 0 ∷ []
+
+-- "8 before 9 or 10": the refusal that one more atom, one more plan meets, or 0
+abbrev pub atom-bar : ℕ → ℕ → ℕ
+atom-bar next atoms = if eqb next last-next then 8 else if leb most-atoms atoms then 9 else 0
+
+abbrev pub plan-bar : ℕ → ℕ → ℕ
+plan-bar next plans = if eqb next last-next then 8 else if leb most-plans plans then 10 else 0

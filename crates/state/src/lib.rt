@@ -4,8 +4,11 @@ ghost use mathlib.Core.Path.{_≡_};
 ghost use Prim.Native.Nat.{_+_, _-_, _*_, _<_, _≤_};
 ghost use lib.ListN.{length, getD};
 ghost use Rattle.lists.specs.Tables.{index-of, trimmed};
-ghost use Rattle.model.specs.Configuration.{empty, no-value, with-flag, without-flag, has-flag, with-flags, step-removed, change-plan, add-atom, add-plan, add-subgoal};
-ghost use Rattle.state.specs.View.{atom-at, plan-at, config-of, atom-ids-of, plan-ids-of, AtomsRise, PlansRise, LivePlan, atom-counted, plan-counted, phase-put, waiting-put, counts-put, plan-word, with-plan-word, plan-numbers};
+ghost use Rattle.model.specs.Configuration.{empty, no-value, with-flag, without-flag, has-flag, equal-to, with-flags, step-removed, change-plan, add-atom, add-plan, add-subgoal};
+ghost use Rattle.state.specs.View.{atom-at, plan-at, config-of, atom-ids-of, plan-ids-of, AtomsRise, PlansRise, LivePlan, atom-counted, plan-counted, phase-put, cycle-put, waiting-put, counts-put, plan-word, with-plan-word, plan-numbers, atom-bar, plan-bar};
+
+// The value of a variable that has none.
+pub const NO_VALUE: u32 = 65536;
 
 // Phase, cycle, next id, the plan waiting for an answer or 0, how many atoms and how many plans live.
 pub struct Scalars {
@@ -114,6 +117,21 @@ impl Scalars {
         }
     }
 
+    // "cycle rises by 1, phase is 0"
+    pub fn cycle_ended(self) -> Scalars
+        requires { ⌜ self .cycle < 65535 ⌝ }
+        ensures { λ r. ⌜ r ≡ cycle-put self ⌝ }
+    {
+        Scalars {
+            phase: 0,
+            cycle: self.cycle + 1,
+            next: self.next,
+            waiting: self.waiting,
+            atoms: self.atoms,
+            plans: self.plans,
+        }
+    }
+
     pub fn with_counts(self, atoms: u32, plans: u32) -> Scalars
         ensures { λ r. ⌜ r ≡ counts-put atoms plans self ⌝ }
     {
@@ -154,6 +172,15 @@ pub fn atom_at(words: &[u32], k: usize) -> Atom
         b: words[i + 3],
         cycle: words[i + 4],
     }
+}
+
+// Atom k is p(a, b).
+pub fn is_equal(words: &[u32], k: usize, p: u32, a: u32, b: u32) -> bool
+    requires { ⌜ (length (now words) ≡ 2432) × (k < 256) ⌝ }
+    ensures { λ r. ⌜ r ≡ equal-to p a b (atom-at (now (words .entry)) k) ⌝ }
+{
+    let x = atom_at(words, k);
+    (x.p == p) & ((x.a == a) & (x.b == b))
 }
 
 // A word of plan k.
@@ -244,6 +271,32 @@ pub fn put_plan_word(words: &mut [u32], k: usize, column: usize, v: u32)
     ensures { λ _. ⌜ now (words .exit) ≡ with-plan-word (now (words .entry)) k column v ⌝ }
 {
     words[1280 + (k * 18 + column)] = v;
+}
+
+// "one more needed": 8 before 9, or 0 where there is room for an atom.
+pub fn room_for_atom(scalars: Scalars) -> u32
+    ensures { λ r. ⌜ r ≡ atom-bar (scalars .next) (scalars .atoms) ⌝ }
+{
+    if scalars.next == Config::LAST_NEXT {
+        return 8;
+    }
+    if Config::MOST_ATOMS <= scalars.atoms {
+        return 9;
+    }
+    0
+}
+
+// 8 before 10, or 0 where there is room for a plan.
+pub fn room_for_plan(scalars: Scalars) -> u32
+    ensures { λ r. ⌜ r ≡ plan-bar (scalars .next) (scalars .plans) ⌝ }
+{
+    if scalars.next == Config::LAST_NEXT {
+        return 8;
+    }
+    if Config::MOST_PLANS <= scalars.plans {
+        return 10;
+    }
+    0
 }
 
 // An atom is made. There is room for it.

@@ -1,1 +1,4 @@
 pub mod Changed
+pub mod Standing
+pub mod Room
+pub mod Answers

@@ -3,11 +3,11 @@ use mathlib.Core.Path.{_≡_, ap, _∙_, refl}
 use mathlib.Core.Bool.{true, false}
 use mathlib.Core.List.{map}
 use native.Mathlib.Omega.{arith}
-use lib.ListN.{drop, getD-replicate}
+use lib.ListN.{length, drop, getD-replicate}
 use Rattle.lists.specs.Tables.{keep-by}
 use Rattle.state.specs.View.{atoms-of, plans-of}
 use Rattle.deletion.specs.Marks.{unlinked-from}
-use Rattle.deletion.proofs.Removed.{removed, counted}
+use Rattle.deletion.proofs.Removed.{removed, counted, left-sound}
 use borrow.Author.Needs.{needs}
 use Rattle.deletion.proofs.remove.Statement.{statement}
 use Rattle.deletion.proofs.remove.Tie as tie
@@ -67,8 +67,9 @@ returns c =
     second .ensures .1 n (omega (arith, h .few-atoms)) ∙ first .ensures .0 .1 ∙ ap (keep-by left) (cut .ensures .0) in
     let plans : plans-of p X ≡ keep-by (drop 256 left) (map (unlinked-from (a .target)) (plans-of (a .scalars .plans) W)) =
     second .ensures .0 .1 ∙ ap (keep-by (drop 256 left)) (first .ensures .1 (a .scalars .plans) ∙ cut .ensures .1) in
+    let long : length X ≡ 2432 = second .kept .0 ∙ first .kept .0 ∙ cut .kept .0 ∙ h .long in
     rw (c .before .before .with-counts .ensures) (
-      (fewer, second .ensures .0 .0),
+      left-sound W (a .scalars) h (a .target) left (marks .ensures) X n p atoms plans long (omega (arith, fewer, h .few-atoms)) (omega (arith, second .ensures .0 .0, h .few-plans)),
       (
         removed W (a .scalars) h (a .target) left (marks .ensures) X n p atoms plans,
         counted W (a .scalars) h (a .target) left (marks .ensures) X n p atoms plans fewer (second .ensures .0 .0),

@@ -12,7 +12,7 @@ use Rattle.program.specs.Rows.{rows-of}
 use Rattle.state.specs.View.{atoms-of, plans-of, config-of}
 use Rattle.formed_plans.specs.Plans.{plan-fits, AtomsStand}
 use Rattle.formed.specs.Passes.{in-order, atom-id, plan-id, atom-fits, limits-hold, subgoals-differ}
-use Rattle.formed.proofs.Sets.{sets-few}
+use Rattle.program_laws.proofs.Sets.{sets-few}
 use Rattle.formed.proofs.Clauses.{clauses, atoms-stand, plans-rise, subgoals-alive}
 use Rattle.formed.proofs.config_formed.Statement.{statement}
 use Rattle.formed.proofs.config_formed.Tie as tie

@@ -7,15 +7,12 @@ use Rattle.lists.specs.Lists.{every}
 use Rattle.model.specs.WellFormed.{row-has-values}
 use Rattle.program.specs.Rows.{rows-of}
 use Rattle.state.specs.View.{plan-at, config-of}
-use Rattle.formed_plans.specs.Plans.{BodyAt}
-use Rattle.formed_plans.proofs.Words.{values-long}
-use Rattle.formed_plans.proofs.Steps.{part-named, span-body, object-is, body-long}
+use Rattle.state.proofs.View.{values-long}
+use Rattle.plan_steps.proofs.Bodies.{part-named, body-long}
+use Rattle.formed_plans.proofs.Steps.{object-is}
 use Rattle.formed_plans.proofs.Tests.{plan-tests}
 use Rattle.formed_plans.proofs.plan_formed.Statement.{statement}
 use Rattle.formed_plans.proofs.plan_formed.Tie as tie
-
-body-at : (c : tie.After-span-of2) → BodyAt (c .before .before .before .before .before .before .args .program .now) (plan-at (c .before .before .before .before .before .before .args .words .now) (c .before .before .before .before .before .before .args .k)) (c .span-of2 .result)
-body-at c = span-body (c .before .before .before .before .before .before .args .program .now) (plan-at (c .before .before .before .before .before .before .args .words .now) (c .before .before .before .before .before .before .args .k)) (c .span-of2 .result) (c .before .before .before .plan-set .result) (c .before .before .plan-rule .result) (c .before .before .before .plan-set .ensures) (c .before .before .plan-rule .ensures) (c .span-of2 .ensures .0) (c .span-of2 .ensures .1)
 
 plan-set-requires : tie.Need-plan-set-requires
 plan-set-requires c κs = search needs
@@ -26,8 +23,8 @@ plan-rule-requires c κs = search needs
 span-of-requires : tie.Need-span-of-requires
 span-of-requires c κs = search needs
 
-span-of-requires-2 : tie.Need-span-of-requires-2
-span-of-requires-2 c κs = search needs
+body-of-requires : tie.Need-body-of-requires
+body-of-requires c κs = search needs
 
 plan-left-requires : tie.Need-plan-left-requires
 plan-left-requires c κs = search needs
@@ -48,7 +45,7 @@ plan-flags-requires : tie.Need-plan-flags-requires
 plan-flags-requires c κs = search needs
 
 subgoal-first-requires : tie.Need-subgoal-first-requires
-subgoal-first-requires c κs = (c .before .before .before .before .before .before .before .before .before .before .before .before .pre .0, c .before .before .before .before .before .before .before .before .before .before .before .before .pre .1, body-at (c .before .before .before .before .before .before))
+subgoal-first-requires c κs = search needs
 
 returns : tie.Need-returns
 returns c =
@@ -57,10 +54,12 @@ returns c =
     let W = a .words .now in
     let P = a .program .now in
     let q = plan-at W (a .k) in
-    let r = c .before .before .before .before .before .before .before .before .span-of .result in
-    let b = c .before .before .before .before .before .before .before .span-of2 .result in
-    let w = body-at (c .before .before .before .before .before .before .before) in
-    let o = object-is P (q .set) (q .rule) (r .from) (r .to) (c .before .before .before .before .before .before .before .before .span-of .ensures .1 ∙ part-named P q (c .before .before .before .before .before .before .before .before .before .before .plan-set .result) (c .before .before .before .before .before .before .before .before .before .plan-rule .result) 1 (c .before .before .before .before .before .before .before .before .before .before .plan-set .ensures) (c .before .before .before .before .before .before .before .before .before .plan-rule .ensures)) in
+    let r = c .before .before .before .before .before .before .before .before .span-of in
+    let b = c .before .before .before .before .before .before .before .body-of .result in
+    let w = c .before .before .before .before .before .before .before .body-of .ensures in
+    let set = c .before .before .before .before .before .before .before .before .before .before .plan-set in
+    let rule = c .before .before .before .before .before .before .before .before .before .plan-rule in
+    let o = object-is P (q .set) (q .rule) (r .result .from) (r .result .to) (r .ensures .1 ∙ part-named P q (set .result) (rule .result) 1 (set .ensures) (rule .ensures)) in
     plan-tests (rows-of P) (config-of W (a .scalars)) q (values-long W (a .k) (s .pre .0 .long) (s .pre .1))
     o
     (ap (λ (n : ℕ). leb n (b .to - b .from)) (c .before .before .before .before .before .plan-left .ensures) ∙ ap (leb (q .left)) (sym (body-long P q b w)))
@@ -76,7 +75,7 @@ plan-formed-spec =
     plan-set-requires
     plan-rule-requires
     span-of-requires
-    span-of-requires-2
+    body-of-requires
     plan-left-requires
     cast-left
     sub-left

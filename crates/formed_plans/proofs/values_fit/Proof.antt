@@ -11,7 +11,7 @@ use borrow.Author.Tests.{le-leb, lt-leb}
 use Rattle.lists.proofs.Counted.{every-places, every-fails}
 use Rattle.model.specs.Configuration.{no-value}
 use Rattle.state.specs.View.{plan-at}
-use Rattle.formed_plans.proofs.Words.{values-long}
+use Rattle.state.proofs.View.{values-long}
 use Rattle.formed_plans.proofs.values_fit.Statement.{statement}
 use Rattle.formed_plans.proofs.values_fit.Tie as tie
 

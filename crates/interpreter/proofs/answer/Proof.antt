@@ -2,7 +2,8 @@ use mathlib.Core.Path.{_≡_, refl, sym, _∙_}
 use lib.ListN.{length}
 use borrow.Author.Tests.{not-true, not-false}
 use Rattle.state.proofs.Live.{sound-plans-rise}
-use Rattle.interpreter.specs.Calls.{conf, answering}
+use Rattle.model.specs.Claims.{work}
+use Rattle.interpreter.specs.Calls.{conf}
 use Rattle.interpreter.proofs.Outcomes.{refuses, admitted-words}
 use Rattle.interpreter.proofs.Answered.{answer-1, answer-6, answer-7, answer-yes, answer-no}
 use Rattle.interpreter.proofs.Waiting.{waiting-live, waiting-succeed, waiting-fail}
@@ -32,7 +33,7 @@ refuse-requires c κs = search needs
 
 -- src/lib.rt:97:9
 returns : tie.Need-returns
-unfolding answering
+unfolding work
 returns c = let a = c .before .before .before .before .before .before .before .args in refuses (a .config) _ 1 _ (c .refuse .ensures) (answer-1 (a .program .now) (conf (a .config)) (a .n) (sym (c .before .before .admits .ensures) ∙ not-true _ (c .before .if1 .taken)))
 
 -- src/lib.rt:101:9
@@ -41,7 +42,7 @@ refuse-requires-2 c κs = search needs
 
 -- src/lib.rt:101:9
 returns-2 : tie.Need-returns-2
-unfolding answering
+unfolding work
 returns-2 c = let a = c .before .before .before .before .before .before .before .before .args in refuses (a .config) _ 6 _ (c .refuse2 .ensures) (answer-6 (a .program .now) (conf (a .config)) (a .n) (sym (c .before .before .before .admits .ensures) ∙ not-false _ (c .before .before .if1 .left)) (c .before .if2 .taken))
 
 -- src/lib.rt:104:9
@@ -50,7 +51,7 @@ refuse-requires-3 c κs = search needs
 
 -- src/lib.rt:104:9
 returns-3 : tie.Need-returns-3
-unfolding answering
+unfolding work
 returns-3 c = let a = c .before .before .before .before .before .before .before .before .before .args in refuses (a .config) _ 7 _ (c .refuse3 .ensures) (answer-7 (a .program .now) (conf (a .config)) (a .n) (sym (c .before .before .before .before .admits .ensures) ∙ not-false _ (c .before .before .before .if1 .left)) (c .before .before .if2 .left) (c .before .if3 .taken))
 
 -- src/lib.rt:106:30
@@ -82,7 +83,7 @@ succeed-requires c κs =
 
 -- src/lib.rt:110:9
 returns-4 : tie.Need-returns-4
-unfolding answering
+unfolding work
 returns-4 c =
     let a = c .before .before .before .before .before .before .before .before .before .before .before .before .before .before .before .args in
     let l : length (a .config .words) ≡ 2432 = search needs in (
@@ -104,7 +105,7 @@ fail-requires c κs =
 
 -- src/lib.rt:90:1
 returns-5 : tie.Need-returns-5
-unfolding answering
+unfolding work
 returns-5 c =
     let a = c .before .before .before .before .before .before .before .before .before .before .before .before .before .before .before .args in
     let l : length (a .config .words) ≡ 2432 = search needs in (

@@ -1,7 +1,8 @@
 use mathlib.Core.Path.{_≡_, refl, sym, _∙_}
 use lib.ListN.{length}
 use borrow.Author.Tests.{not-true, not-false}
-use Rattle.interpreter.specs.Calls.{conf, deleting}
+use Rattle.model.specs.Claims.{work}
+use Rattle.interpreter.specs.Calls.{conf}
 use Rattle.interpreter.proofs.Outcomes.{refuses, admitted-words}
 use Rattle.interpreter.proofs.Deleted.{delete-1, delete-6, delete-12, delete-done}
 use borrow.Author.Needs.{needs}
@@ -28,7 +29,7 @@ refuse-requires c κs = search needs
 
 -- src/lib.rt:68:9
 returns : tie.Need-returns
-unfolding deleting
+unfolding work
 returns c = let a = c .before .before .before .before .before .before .before .args in refuses (a .config) _ 1 _ (c .refuse .ensures) (delete-1 (a .program .now) (conf (a .config)) (a .id) (sym (c .before .before .admits .ensures) ∙ not-true _ (c .before .if1 .taken)))
 
 -- src/lib.rt:71:9
@@ -37,7 +38,7 @@ refuse-requires-2 c κs = search needs
 
 -- src/lib.rt:71:9
 returns-2 : tie.Need-returns-2
-unfolding deleting
+unfolding work
 returns-2 c = let a = c .before .before .before .before .before .before .before .before .before .args in refuses (a .config) _ 6 _ (c .refuse2 .ensures) (delete-6 (a .program .now) (conf (a .config)) (a .id) (sym (c .before .before .before .before .admits .ensures) ∙ not-false _ (c .before .before .before .if1 .left)) (c .before .if2 .taken))
 
 -- src/lib.rt:73:18
@@ -54,7 +55,7 @@ refuse-requires-3 c κs = search needs
 
 -- src/lib.rt:74:9
 returns-3 : tie.Need-returns-3
-unfolding deleting
+unfolding work
 returns-3 c = let a = c .before .before .before .before .before .before .before .before .before .before .before .before .args in refuses (a .config) _ 12 _ (c .refuse3 .ensures) (delete-12 (a .program .now) (conf (a .config)) (a .id) (sym (c .before .before .before .before .before .before .before .admits .ensures) ∙ not-false _ (c .before .before .before .before .before .before .if1 .left)) (c .before .before .before .before .if2 .left) (sym (c .before .before .is-alive .ensures) ∙ not-true _ (c .before .if3 .taken)))
 
 -- src/lib.rt:76:20
@@ -67,7 +68,7 @@ remove-requires c κs = let a = c .before .before .before .before .before .befor
 
 -- src/lib.rt:61:1
 returns-4 : tie.Need-returns-4
-unfolding deleting
+unfolding work
 returns-4 c =
     let a = c .before .before .before .before .before .before .before .before .before .before .before .before .before .before .before .args in
     (delete-done (a .program .now) (conf (a .config)) (a .id) (sym (c .before .before .before .before .before .before .before .before .before .before .admits .ensures) ∙ not-false _ (c .before .before .before .before .before .before .before .before .before .if1 .left)) (c .before .before .before .before .before .before .before .if2 .left) (sym (c .before .before .before .before .before .is-alive .ensures) ∙ not-false _ (c .before .before .before .before .if3 .left)) _ _ (c .before .before .remove .ensures .1 .0) (c .before .before .remove .ensures .1 .1), λ z. absurd (z refl))

@@ -1,14 +1,9 @@
-use mathlib.Core.Path.{_≡_, sym, ap, _∙_}
+use mathlib.Core.Path.{_≡_, ap, _∙_}
 use Prim.Native.Nat.{ℕ}
 use lib.Dec.{ltb}
-use lib.ListN.{length-map}
-use Rattle.lists.specs.Lists.{member}
-use Rattle.lists.specs.Tables.{index-of}
-use Rattle.lists.proofs.Tables.{index-member}
-use Rattle.model.specs.declared.Atom.{Atom}
-use Rattle.model.specs.Configuration.{Plan, atom-alive, plan-alive}
-use Rattle.state.specs.View.{atoms-of, plans-of, atom-ids-of, plan-ids-of}
-use Rattle.state.proofs.Live.{atoms-counted, plans-counted, sound-atoms-rise, sound-plans-rise}
+use Rattle.model.specs.Configuration.{atom-alive, plan-alive}
+use Rattle.state.specs.View.{config-of}
+use Rattle.state.proofs.Live.{sound-atoms-rise, sound-plans-rise, found-atom-alive, found-plan-alive}
 use borrow.Author.Needs.{needs}
 use Rattle.interpreter.proofs.is_alive.Statement.{statement}
 use Rattle.interpreter.proofs.is_alive.Tie as tie
@@ -35,13 +30,12 @@ cast-result-2 c = search needs
 
 -- src/lib.rt:51:1
 returns : tie.Need-returns
-unfolding atom-alive plan-alive
 returns c =
     let a = c .before .before .before .before .before .args in
-    let i : ltb (c .before .before .before .find-atom .result) (a .scalars .atoms) ≡ member (a .id) (atom-ids-of (a .scalars .atoms) (a .words .now)) =
-    ap (λ (n : ℕ). ltb n (a .scalars .atoms)) (c .before .before .before .find-atom .ensures) ∙ ap (ltb (index-of (a .id) (atom-ids-of (a .scalars .atoms) (a .words .now)))) (sym (length-map (atoms-of (a .scalars .atoms) (a .words .now)) (λ (x : Atom). x .id) ∙ atoms-counted (a .words .now) (a .scalars))) ∙ index-member (a .id) (atom-ids-of (a .scalars .atoms) (a .words .now)) in
-    let j : ltb (c .before .before .find-plan .result) (a .scalars .plans) ≡ member (a .id) (plan-ids-of (a .scalars .plans) (a .words .now)) =
-    ap (λ (n : ℕ). ltb n (a .scalars .plans)) (c .before .before .find-plan .ensures) ∙ ap (ltb (index-of (a .id) (plan-ids-of (a .scalars .plans) (a .words .now)))) (sym (length-map (plans-of (a .scalars .plans) (a .words .now)) (λ (q : Plan). q .id) ∙ plans-counted (a .words .now) (a .scalars))) ∙ index-member (a .id) (plan-ids-of (a .scalars .plans) (a .words .now)) in
+    let i : ltb (c .before .before .before .find-atom .result) (a .scalars .atoms) ≡ atom-alive (config-of (a .words .now) (a .scalars)) (a .id) =
+    ap (λ (n : ℕ). ltb n (a .scalars .atoms)) (c .before .before .before .find-atom .ensures) ∙ found-atom-alive (a .words .now) (a .scalars) (a .id) in
+    let j : ltb (c .before .before .find-plan .result) (a .scalars .plans) ≡ plan-alive (config-of (a .words .now) (a .scalars)) (a .id) =
+    ap (λ (n : ℕ). ltb n (a .scalars .plans)) (c .before .before .find-plan .ensures) ∙ found-plan-alive (a .words .now) (a .scalars) (a .id) in
     cc (i, j)
 
 pub is-alive-spec : {M : Type 1} → statement M

@@ -3,7 +3,8 @@ use native.Mathlib.Omega.{arith}
 use lib.ListN.{length}
 use borrow.Author.Tests.{not-true, not-false}
 use Rattle.state.specs.View.{config-of}
-use Rattle.interpreter.specs.Calls.{conf, sensing}
+use Rattle.model.specs.Claims.{work}
+use Rattle.interpreter.specs.Calls.{conf}
 use Rattle.interpreter.proofs.Outcomes.{refuses}
 use Rattle.interpreter.proofs.Sensed.{admitted-ready, sense-1, sense-6-phase, sense-6-waiting, sense-7-many, sense-7-torn, sense-7-range, sense-barred, sense-rises, sense-done}
 use borrow.Author.Needs.{needs}
@@ -31,7 +32,7 @@ refuse-requires c κs = search needs
 
 -- src/lib.rt:135:9
 returns : tie.Need-returns
-unfolding sensing
+unfolding work
 returns c = let a = c .before .before .before .before .before .before .before .before .args in refuses (a .config) _ 1 _ (c .refuse .ensures) (sense-1 (a .program .now) (conf (a .config)) (a .rows .now) (sym (c .before .before .admits .ensures) ∙ not-true _ (c .before .if1 .taken)))
 
 -- src/lib.rt:138:9
@@ -40,7 +41,7 @@ refuse-requires-2 c κs = search needs
 
 -- src/lib.rt:138:9
 returns-2 : tie.Need-returns-2
-unfolding sensing
+unfolding work
 returns-2 c = let a = c .before .before .before .before .before .before .before .before .before .before .args in refuses (a .config) _ 6 _ (c .refuse2 .ensures) (sense-6-phase (a .program .now) (conf (a .config)) (a .rows .now) (sym (c .before .before .before .before .admits .ensures) ∙ not-false _ (c .before .before .before .if1 .left)) (c .before .if2 .taken))
 
 -- src/lib.rt:141:9
@@ -49,7 +50,7 @@ refuse-requires-3 c κs = search needs
 
 -- src/lib.rt:141:9
 returns-3 : tie.Need-returns-3
-unfolding sensing
+unfolding work
 returns-3 c = let a = c .before .before .before .before .before .before .before .before .before .before .before .before .args in refuses (a .config) _ 6 _ (c .refuse3 .ensures) (sense-6-waiting (a .program .now) (conf (a .config)) (a .rows .now) (sym (c .before .before .before .before .before .before .admits .ensures) ∙ not-false _ (c .before .before .before .before .before .if1 .left)) (c .before .if3 .taken))
 
 -- src/lib.rt:144:9
@@ -58,7 +59,7 @@ refuse-requires-4 c κs = search needs
 
 -- src/lib.rt:144:9
 returns-4 : tie.Need-returns-4
-unfolding sensing
+unfolding work
 returns-4 c = let a = c .before .before .before .before .before .before .before .before .before .before .before .before .before .args in refuses (a .config) _ 7 _ (c .refuse4 .ensures) (sense-7-many (a .program .now) (conf (a .config)) (a .rows .now) (sym (c .before .before .before .before .before .before .before .admits .ensures) ∙ not-false _ (c .before .before .before .before .before .before .if1 .left)) (c .before .before .before .before .if2 .left) (c .before .before .if3 .left) (c .before .if4 .taken))
 
 -- src/lib.rt:147:9
@@ -67,7 +68,7 @@ refuse-requires-5 c κs = search needs
 
 -- src/lib.rt:147:9
 returns-5 : tie.Need-returns-5
-unfolding sensing
+unfolding work
 returns-5 c = let a = c .before .before .before .before .before .before .before .before .before .before .before .before .before .before .args in refuses (a .config) _ 7 _ (c .refuse5 .ensures) (sense-7-torn (a .program .now) (conf (a .config)) (a .rows .now) (sym (c .before .before .before .before .before .before .before .before .admits .ensures) ∙ not-false _ (c .before .before .before .before .before .before .before .if1 .left)) (c .before .before .before .before .before .if2 .left) (c .before .before .before .if3 .left) (c .before .if5 .taken))
 
 -- src/lib.rt:149:9
@@ -80,7 +81,7 @@ refuse-requires-6 c κs = search needs
 
 -- src/lib.rt:150:9
 returns-6 : tie.Need-returns-6
-unfolding sensing
+unfolding work
 returns-6 c = let a = c .before .before .before .before .before .before .before .before .before .before .before .before .before .before .before .before .args in refuses (a .config) _ 7 _ (c .refuse6 .ensures) (sense-7-range (a .program .now) (conf (a .config)) (a .rows .now) (sym (c .before .before .before .before .before .before .before .before .before .before .admits .ensures) ∙ not-false _ (c .before .before .before .before .before .before .before .before .before .if1 .left)) (c .before .before .before .before .before .before .before .if2 .left) (c .before .before .before .before .before .if3 .left) (let m = (c .before .before .before .before .if4 .left) in omega arith) (c .before .before .before .if5 .left) (sym (c .before .before .rows-in-range .ensures) ∙ not-true _ (c .before .if6 .taken)))
 
 -- src/lib.rt:152:42
@@ -101,7 +102,7 @@ refuse-requires-7 c κs = search needs
 
 -- src/lib.rt:159:9
 returns-7 : tie.Need-returns-7
-unfolding sensing
+unfolding work
 returns-7 c = let a = c .before .before .before .before .before .before .before .before .before .before .before .before .before .before .before .before .before .before .before .before .before .before .before .args in refuses (a .config) _ _ _ (c .refuse7 .ensures) (sense-barred (a .program .now) (conf (a .config)) (a .rows .now) (sym (c .before .before .before .before .before .before .before .before .before .before .before .before .before .before .before .before .before .admits .ensures) ∙ not-false _ (c .before .before .before .before .before .before .before .before .before .before .before .before .before .before .before .before .if1 .left)) (c .before .before .before .before .before .before .before .before .before .before .before .before .before .before .if2 .left) (c .before .before .before .before .before .before .before .before .before .before .before .before .if3 .left) (let m = (c .before .before .before .before .before .before .before .before .before .before .before .if4 .left) in omega arith) (c .before .before .before .before .before .before .before .before .before .before .if5 .left) (sym (c .before .before .before .before .before .before .before .before .before .rows-in-range .ensures) ∙ not-false _ (c .before .before .before .before .before .before .before .before .if6 .left)) _ _ _ (c .before .if7 .taken) (c .before .before .before .before .before .before .sense-rows .ensures .0))
 
 -- src/lib.rt:161:16
@@ -110,7 +111,7 @@ sub-made c = let a = c .before .before .before .before .before .before .before .
 
 -- src/lib.rt:128:1
 returns-8 : tie.Need-returns-8
-unfolding sensing
+unfolding work
 returns-8 c = let a = c .before .before .before .before .before .before .before .before .before .before .before .before .before .before .before .before .before .before .before .before .before .before .before .before .args in (sense-done (a .program .now) (conf (a .config)) (a .rows .now) (sym (c .before .before .before .before .before .before .before .before .before .before .before .before .before .before .before .before .before .before .admits .ensures) ∙ not-false _ (c .before .before .before .before .before .before .before .before .before .before .before .before .before .before .before .before .before .if1 .left)) (c .before .before .before .before .before .before .before .before .before .before .before .before .before .before .before .if2 .left) (c .before .before .before .before .before .before .before .before .before .before .before .before .before .if3 .left) (let m = (c .before .before .before .before .before .before .before .before .before .before .before .before .if4 .left) in omega arith) (c .before .before .before .before .before .before .before .before .before .before .before .if5 .left) (sym (c .before .before .before .before .before .before .before .before .before .before .rows-in-range .ensures) ∙ not-false _ (c .before .before .before .before .before .before .before .before .before .if6 .left)) _ _ _ _ (c .before .before .if7 .left) (c .before .before .before .before .before .before .before .sense-rows .ensures .0) refl _ (ap (config-of _) (c .before .before .before .before .with-phase .ensures)), λ z. absurd (z refl))
 
 pub sense-spec : {M : Type 1} → statement M

@@ -4,7 +4,7 @@ use Rattle.sensing.proofs.applies.Statement.{statement}
 use Rattle.sensing.proofs.applies.Tie as tie
 use Rattle.sensing.proofs.applies.Reads as reads
 use Rattle.sensing.proofs.applies.Lts as lts
-use Rattle.sensing.proofs.constant.Reads as constant-reads
+use Rattle.model.proofs.constant.Reads as constant-reads
 
 -- src/lib.rt:52:14
 mul-at : tie.Need-mul-at

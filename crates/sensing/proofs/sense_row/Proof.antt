@@ -4,13 +4,14 @@ use native.Mathlib.Omega.{arith}
 use Rattle.model.specs.Configuration.{add-atom}
 use Rattle.state.specs.View.{config-of}
 use Rattle.sensing.specs.Sensing.{reading-of, Withdraws}
-use Rattle.sensing.proofs.Readings.{senses-add, senses-withdrawal, atoms-of-bar, bar-free, ready-added}
+use Rattle.sensing.proofs.Readings.{senses-add, senses-withdrawal, ready-added}
+use Rattle.state.proofs.Room.{atoms-of-bar, bar-free}
 use borrow.Author.Needs.{needs}
 use Rattle.sensing.proofs.sense_row.Statement.{statement}
 use Rattle.sensing.proofs.sense_row.Tie as tie
 use Rattle.sensing.proofs.sense_row.Reads as reads
 use Rattle.sensing.proofs.sense_row.Lts as lts
-use Rattle.sensing.proofs.room_for_atom.Reads as room-for-atom-reads
+use Rattle.state.proofs.room_for_atom.Reads as room-for-atom-reads
 use Rattle.sensing.proofs.taken_as.Reads as taken-as-reads
 use Rattle.sensing.proofs.withdraw.Reads as withdraw-reads
 use Rattle.state.proofs.append_atom.Reads as append-atom-reads
@@ -38,7 +39,7 @@ append-atom-requires c κs =
     let r = c .before .before .before .before .before .before .before .before .pre in
     let a = c .before .before .before .before .before .before .before .before .args in
     let h = bar-free (a .scalars .next) (a .scalars .atoms) (sym (c .before .before .room-for-atom .ensures) ∙ c .before .if2 .left) in
-    (r .long, h .1, omega (arith, h .0, r .next-fits))
+    (r .whole .long, h .1, omega (arith, h .0, r .next-fits))
 
 -- src/lib.rt:146:9
 same-length : tie.Need-same-length
@@ -53,7 +54,7 @@ returns-2 c =
       senses-add _ (reading-of (a .reading)) (config-of (a .words .now) (a .scalars)) (c .before .before .before .before .before .before .if1 .taken) 0
           (atoms-of-bar (a .words .now) (a .scalars) ∙ sym (c .before .before .before .before .before .room-for-atom .ensures) ∙ c .before .before .before .before .if2 .left) _
           (λ z. c .before .before .append-atom .ensures .1 ∙ ap (λ (p : ℕ). add-atom p (a .reading .a) (a .reading .b) (config-of (a .words .now) (a .scalars))) (c .before .before .before .before .before .before .before .before .taken-as .ensures)),
-      (λ z. ready-added (a .words .now) (c .before .before .append-atom .last .0) (a .scalars) (c .before .before .append-atom .result) _ _ _ r (h .1) (omega (arith, h .0, r .next-fits)) (c .before .before .append-atom .kept .0 ∙ r .long) (c .before .before .append-atom .ensures .0) (c .before .before .append-atom .ensures .1), omega arith),
+      (λ z. ready-added (a .words .now) (c .before .before .append-atom .last .0) (a .scalars) (c .before .before .append-atom .result) _ _ _ r (h .1) (omega (arith, h .0, r .next-fits)) (c .before .before .append-atom .kept .0 ∙ r .whole .long) (c .before .before .append-atom .ensures .0) (c .before .before .append-atom .ensures .1), omega arith),
     )
 
 -- src/lib.rt:152:9

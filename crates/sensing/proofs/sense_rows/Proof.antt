@@ -27,7 +27,7 @@ loop-holds : tie.Need-loop-holds Inv-loop μ-loop
 loop-holds c =
     let p = c .before .before .before .pre in
     let a = c .before .before .before .args in
-    (at-first (rows-of (a .program .now)) (a .rows .now) (length (a .rows .now) / 4) (a .words .now) (a .scalars) (p .0), omega arith, omega (arith, p .1), p .0 .long, omega arith)
+    (at-first (rows-of (a .program .now)) (a .rows .now) (length (a .rows .now) / 4) (a .words .now) (a .scalars) (p .0), omega arith, omega (arith, p .1), p .0 .whole .long, omega arith)
 
 -- src/lib.rt:188:46
 reading-at-requires : tie.Need-reading-at-requires Inv-loop μ-loop
@@ -39,7 +39,7 @@ sense-row-requires c κs = c .before .before .before .loop .inv .0 .ready
 
 -- src/lib.rt:191:13
 same-length : tie.Need-same-length Inv-loop μ-loop
-same-length c = c .before .before .before .before .before .sense-row .kept .1 .0 ∙ c .before .before .before .before .before .before .before .before .before .loop .inv .0 .ready .long ∙ sym (c .before .before .before .before .before .before .before .before .before .loop .inv .3)
+same-length c = c .before .before .before .before .before .sense-row .kept .1 .0 ∙ c .before .before .before .before .before .before .before .before .before .loop .inv .0 .ready .whole .long ∙ sym (c .before .before .before .before .before .before .before .before .before .loop .inv .3)
 
 -- src/lib.rt:191:13
 returns : tie.Need-returns Inv-loop μ-loop
@@ -74,7 +74,7 @@ loop-again c =
 
 -- src/lib.rt:178:1
 same-length-2 : tie.Need-same-length-2 Inv-loop μ-loop
-same-length-2 c = c .before .loop .inv .0 .ready .long ∙ sym (c .before .loop .inv .3)
+same-length-2 c = c .before .loop .inv .0 .ready .whole .long ∙ sym (c .before .loop .inv .3)
 
 -- src/lib.rt:178:1
 returns-2 : tie.Need-returns-2 Inv-loop μ-loop

@@ -12,7 +12,7 @@ use Rattle.sensing.proofs.taken_as.Tie as tie
 use Rattle.sensing.proofs.taken_as.Reads as reads
 use Rattle.sensing.proofs.taken_as.Lts as lts
 use Rattle.sensing.proofs.applies.Reads as applies-reads
-use Rattle.sensing.proofs.constant.Reads as constant-reads
+use Rattle.model.proofs.constant.Reads as constant-reads
 
 abbrev Inv-loop : tie.InvT-loop
 Inv-loop program reading n k₀ k = taken-as (rows-of program) (reading-of reading) ≡ left-of program (reading-of reading) k n

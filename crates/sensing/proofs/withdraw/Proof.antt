@@ -5,17 +5,18 @@ use Prim.Native.Nat.{ℕ, _+_, _-_, _<_, _≤_}
 use native.Mathlib.Omega.{arith}
 use lib.ListN.{length}
 use borrow.Author.Needs.{needs}
-use Rattle.state.specs.View.{atom-at, config-of}
+use Rattle.state.specs.View.{atom-at, config-of, SoundWords}
 use Rattle.model.specs.declared.Atom.{Atom}
 use Rattle.model.specs.Deletion.{graph, remove as removed}
 use Rattle.model.specs.Events.{gone-by, deletion}
-use Rattle.sensing.specs.Sensing.{equal-to}
-use Rattle.sensing.proofs.Withdrawals.{Withdrawing, withdrawing-first, withdrawing-skip, withdrawing-take, withdrawing-end, fewer, counts-after}
+use Rattle.model.specs.Configuration.{equal-to}
+use Rattle.sensing.proofs.Withdrawals.{Withdrawing, withdrawing-first, withdrawing-skip, withdrawing-take, withdrawing-end, fewer}
+use Rattle.deletion.proofs.Sound.{counts-after}
 use Rattle.sensing.proofs.withdraw.Statement.{statement}
 use Rattle.sensing.proofs.withdraw.Tie as tie
 use Rattle.sensing.proofs.withdraw.Reads as reads
 use Rattle.sensing.proofs.withdraw.Lts as lts
-use Rattle.sensing.proofs.is_equal.Reads as is-equal-reads
+use Rattle.state.proofs.is_equal.Reads as is-equal-reads
 use Rattle.deletion.proofs.remove.Reads as remove-reads
 use Rattle.state.proofs.atom_at.Reads as atom-at-reads
 
@@ -42,8 +43,8 @@ module _ (c : tie.After-struct-known2 Inv-loop μ-loop) where
   same-id : c .before .before .before .before .before .before .atom-at .result .id ≡ id-of
   same-id = ap (λ (x : Atom). x .id) (c .before .before .before .before .before .before .atom-at .ensures)
 
-  long : length (c .before .before .before .before .remove .last .0) ≡ 2432
-  long = c .before .before .before .before .remove .kept .0 ∙ at-loop .loop .inv .0 .ready .long
+  whole : SoundWords (c .before .before .before .before .remove .last .0) (c .before .before .before .before .remove .result .scalars)
+  whole = c .before .before .before .before .remove .ensures .0
 
   left : config-of (c .before .before .before .before .remove .last .0) (c .before .before .before .before .remove .result .scalars) ≡ removed id-of (config-of (at-loop .loop .words) (at-loop .loop .s))
   left = c .before .before .before .before .remove .ensures .1 .0 ∙ ap (λ (t : ℕ). removed t (config-of (at-loop .loop .words) (at-loop .loop .s))) same-id
@@ -52,7 +53,7 @@ module _ (c : tie.After-struct-known2 Inv-loop μ-loop) where
   counted = c .before .before .before .before .remove .ensures .1 .1 ∙ ap (λ (t : ℕ). gone-by (graph (config-of (at-loop .loop .words) (at-loop .loop .s))) (deletion t)) same-id
 
 loop-holds : tie.Need-loop-holds Inv-loop μ-loop
-loop-holds c = let r = c .before .pre in (withdrawing-first _ _ _ _ _ r, omega (arith, r .few-atoms, r .few-plans), r .long)
+loop-holds c = let r = c .before .pre in (withdrawing-first _ _ _ _ _ r, omega (arith, r .whole .few-atoms, r .whole .few-plans), r .whole .long)
 
 -- src/lib.rt:103:15
 cast-if1 : tie.Need-cast-if1 Inv-loop μ-loop
@@ -60,21 +61,21 @@ cast-if1 c = search needs
 
 -- src/lib.rt:104:12
 is-equal-requires : tie.Need-is-equal-requires Inv-loop μ-loop
-is-equal-requires c κs = let i = c .before .before .before .loop .inv .0 in (i .ready .long, omega (arith, i .ready .few-atoms))
+is-equal-requires c κs = let i = c .before .before .before .loop .inv .0 in (i .ready .whole .long, omega (arith, i .ready .whole .few-atoms))
 
 -- src/lib.rt:105:17
 atom-at-requires : tie.Need-atom-at-requires Inv-loop μ-loop
-atom-at-requires c κs = let i = c .before .before .before .before .before .before .loop .inv .0 in (i .ready .long, omega (arith, i .ready .few-atoms))
+atom-at-requires c κs = let i = c .before .before .before .before .before .before .loop .inv .0 in (i .ready .whole .long, omega (arith, i .ready .whole .few-atoms))
 
 -- src/lib.rt:106:17
 remove-requires : tie.Need-remove-requires Inv-loop μ-loop
-remove-requires c κs = let i = c .before .before .before .before .before .before .before .before .loop .inv .0 in record { long = i .ready .long; few-atoms = i .ready .few-atoms; few-plans = i .ready .few-plans; sound = i .ready .sound }
+remove-requires c κs = let i = c .before .before .before .before .before .before .before .before .loop .inv .0 in i .ready .whole
 
 -- src/lib.rt:109:13
 add-gone : tie.Need-add-gone Inv-loop μ-loop
 add-gone c =
     let b = at-loop c in
-    let z = counts-after (b .loop .words) (c .before .before .before .before .remove .last .0) (b .loop .s) (c .before .before .before .before .remove .result .scalars) (id-of c) (b .loop .inv .0 .ready) (long c) (left c) in
+    let z = counts-after (b .loop .words) (c .before .before .before .before .remove .last .0) (b .loop .s) (c .before .before .before .before .remove .result .scalars) (id-of c) (left c) in
     let e = counted c in
     omega (arith, b .loop .inv .0 .sum, b .loop .inv .1)
 
@@ -82,18 +83,18 @@ add-gone c =
 loop-less : tie.Need-loop-less Inv-loop μ-loop
 loop-less c =
     let b = at-loop c in
-    let f = fewer (b .before .before .args .p) (b .before .before .args .a) (b .before .before .args .b) (config-of (b .before .before .args .words .now) (b .before .before .args .scalars)) (b .before .before .args .scalars .atoms + b .before .before .args .scalars .plans) (b .loop .words) (b .loop .s) (c .before .before .before .before .remove .last .0) (c .before .before .before .before .remove .result .scalars) (b .loop .gone) (b .loop .k) (c .before .before .before .before .remove .result .gone) (b .loop .inv .0) (there c) (equal c) (long c) (left c) (counted c) in
+    let f = fewer (b .before .before .args .p) (b .before .before .args .a) (b .before .before .args .b) (config-of (b .before .before .args .words .now) (b .before .before .args .scalars)) (b .before .before .args .scalars .atoms + b .before .before .args .scalars .plans) (b .loop .words) (b .loop .s) (c .before .before .before .before .remove .last .0) (c .before .before .before .before .remove .result .scalars) (b .loop .gone) (b .loop .k) (c .before .before .before .before .remove .result .gone) (b .loop .inv .0) (there c) (equal c) (whole c) (left c) (counted c) in
     omega arith
 
 -- src/lib.rt:103:5
 loop-again : tie.Need-loop-again Inv-loop μ-loop
 loop-again c =
     let b = at-loop c in
-    (withdrawing-take (b .before .before .args .p) (b .before .before .args .a) (b .before .before .args .b) (config-of (b .before .before .args .words .now) (b .before .before .args .scalars)) (b .before .before .args .scalars .atoms + b .before .before .args .scalars .plans) (b .loop .words) (b .loop .s) (c .before .before .before .before .remove .last .0) (c .before .before .before .before .remove .result .scalars) (b .loop .gone) (b .loop .k) (c .before .before .before .before .remove .result .gone) (b .loop .inv .0) (there c) (equal c) (long c) (left c) (counted c), b .loop .inv .1, b .loop .inv .2)
+    (withdrawing-take (b .before .before .args .p) (b .before .before .args .a) (b .before .before .args .b) (config-of (b .before .before .args .words .now) (b .before .before .args .scalars)) (b .before .before .args .scalars .atoms + b .before .before .args .scalars .plans) (b .loop .words) (b .loop .s) (c .before .before .before .before .remove .last .0) (c .before .before .before .before .remove .result .scalars) (b .loop .gone) (b .loop .k) (c .before .before .before .before .remove .result .gone) (b .loop .inv .0) (there c) (equal c) (whole c) (left c) (counted c), b .loop .inv .1, b .loop .inv .2)
 
 -- src/lib.rt:111:13
 add-k : tie.Need-add-k Inv-loop μ-loop
-add-k c = let i = c .before .before .before .before .before .loop .inv .0 in omega (arith, i .ready .few-atoms, i .inside)
+add-k c = let i = c .before .before .before .before .before .loop .inv .0 in omega (arith, i .ready .whole .few-atoms, i .inside)
 
 -- src/lib.rt:103:5
 loop-less-2 : tie.Need-loop-less-2 Inv-loop μ-loop
@@ -108,7 +109,7 @@ loop-again-2 c =
 
 -- src/lib.rt:96:1
 same-length : tie.Need-same-length Inv-loop μ-loop
-same-length c = let i = c .before .before .loop .inv in i .0 .ready .long ∙ sym (i .2)
+same-length c = let i = c .before .before .loop .inv in i .0 .ready .whole .long ∙ sym (i .2)
 
 -- src/lib.rt:96:1
 returns : tie.Need-returns Inv-loop μ-loop

@@ -12,7 +12,7 @@ plan-word-requires : tie.Need-plan-word-requires
 plan-word-requires c κs = search needs
 
 returns : tie.Need-returns
-returns c = let s = c .before .before in let a = s .args in c .plan-word .ensures ∙ plan-value-is (a .words .now) (a .k) (a .i) (s .pre .2) (s .pre .1) (s .pre .0)
+returns c = let s = c .before .before in let a = s .args in c .plan-word .ensures ∙ plan-value-is (a .words .now) (a .k) (s .pre .0) (s .pre .1) (a .i) (s .pre .2)
 
 pub plan-value-spec : {M : Type 1} → statement M
 plan-value-spec = tie.close (tie.spec add-plan-word plan-word-requires returns)

@@ -1,0 +1,5 @@
+pub mod Places
+pub mod Cleared
+pub mod Answers
+pub mod Taken
+pub mod After

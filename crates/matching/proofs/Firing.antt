@@ -1,0 +1,171 @@
+-- One rule by the bounds of its parts: where it stands, what its matches are, and what fires first of it and the rules behind it.
+use mathlib.Core.Path.{_≡_, refl, sym, ap, ap₂, _∙_}
+use mathlib.Core.Bool.{Bool, true, false, not, _&&_, and-eq-true-iff}
+use mathlib.Core.Logic.{_≢_}
+use mathlib.Core.List.{List, [], _∷_, _++_, map}
+use Prim.Native.Nat.{ℕ, _+_, _-_, _/_, _≤_, _<_}
+use native.Mathlib.Omega.{arith}
+use lib.Dec.{eqb, ltb}
+use lib.ListN.{length, length-append}
+use borrow.Author.Tests.{eqb-true, ne-eqb, ltb-true, ltb-false, le-ltb}
+use Rattle.lists.specs.Lists.{In, keep, when, first-of, is-empty, bind}
+use Rattle.lists.proofs.Lists.{clash, keep-in, count-keep}
+use Rattle.lists.proofs.Bind.{keep-append}
+use Rattle.lists.proofs.Splits.{keep-none}
+use Rattle.lists.proofs.Search.{map-bind, first-map}
+use Rattle.model.specs.declared.Row.{Row}
+use Rattle.model.specs.Program.{part-of, reasons, context, body, is-object}
+use Rattle.model.specs.Configuration.{Config}
+use Rattle.model.specs.Matching.{Found, nothing-found, matches, counts, rule-rows, rule-matches, Firing, firing}
+use Rattle.program.specs.Rows.{row-at, rows-from, rows-of}
+use Rattle.program.proofs.Words.{rows-next, rows-none}
+use Rattle.program_laws.specs.Lawful.{Lawful}
+use Rattle.spans.specs.Spans.{Bound}
+use Rattle.spans.proofs.Spans.{bounds-rise, span-is}
+use Rattle.state.specs.declared.Scalars.{Scalars}
+use Rattle.state.specs.View.{config-of}
+use Rattle.queries.specs.declared.Match.{Match}
+use Rattle.queries.specs.View.{found-of, match-of}
+use Rattle.queries.specs.Answers.{answers}
+use Rattle.queries.proofs.Answers.{match-none, match-one}
+use Rattle.matching.specs.declared.Rule.{Rule}
+use Rattle.matching.specs.declared.Choice.{Choice}
+use Rattle.matching.specs.Rules.{rows-between, reasons-in, Located, counted, choice-of}
+use Rattle.matching.proofs.Rows.{counted-next}
+use Rattle.matching.proofs.Rules.{rows-join, top, fired, fires, fires-next, fires-end, no-rule}
+
+-- what follows an answer of a rule's first row
+unfoldable pub follow : List ℕ → List ℕ → Scalars → Rule → ℕ → Found → List Firing
+follow program words scalars rule start x = map (fired (rule .number)) (counted program words scalars rule (start + 1) x)
+
+-- the bounds of a rule's parts
+pub record Parts (program : List ℕ) (s n start behind mid end : ℕ) : Type 0 where
+  pub first : Bound program s n 1 start
+  pub second : Bound program s n 2 behind
+  pub third : Bound program s n 3 mid
+  pub fourth : Bound program s n 4 end
+
+module _ (program : List ℕ) (s n start behind mid end : ℕ) (x : Parts program s n start behind mid end) where
+  abbrev P : List Row
+  P = rows-of program
+
+  abbrev rule-at : Rule
+  rule-at = record { set = s; number = n; body = mid; end = end; object = ltb start behind }
+
+  pub parts-rise : (start ≤ behind) × (behind ≤ mid) × (mid ≤ end)
+  parts-rise = (bounds-rise program s n 1 start behind (x .first) (x .second), bounds-rise program s n 2 behind mid (x .second) (x .third), bounds-rise program s n 3 mid end (x .third) (x .fourth))
+
+  queries-are : rows-between program start mid ≡ rule-rows P s n
+  unfolding rows-between
+  queries-are =
+      sym (rows-join program start behind mid (parts-rise .0) (parts-rise .1))
+      ∙ ap₂ _++_ (span-is program s n 1 start behind (x .first) (x .second)) (span-is program s n 2 behind mid (x .second) (x .third))
+
+  object-are : ltb start behind ≡ is-object P s n
+  unfolding is-object
+  object-are = at (ltb start behind) refl ∙ ap (λ (l : List Row). not (is-empty l)) (span-is program s n 1 start behind (x .first) (x .second))
+    where
+      at : (b : Bool) → ltb start behind ≡ b → b ≡ not (is-empty (rows-from program start (behind - start)))
+      at true e = rw (rows-next program start behind (ltb-true start behind e))
+      at false e = rw (rows-none program start behind (ltb-false start behind e))
+
+  pub located : Located program rule-at
+  unfolding rows-between
+  located = record {
+    ordered = parts-rise .2;
+    inside = x .fourth .inside;
+    object-is = object-are;
+    body-is = span-is program s n 3 mid end (x .third) (x .fourth);
+  }
+
+  no-reason : (r : Row) → In r (context P s n) → eqb (r .part) 1 ≡ false
+  unfolding part-of
+  no-reason r i =
+      let k = keep-in (λ (r : Row). eqb (r .set) s && (eqb (r .rule) n && eqb (r .part) 2)) P i .1 in
+      let l = and-eq-true-iff (eqb (r .set) s) (eqb (r .rule) n && eqb (r .part) 2) .0 k .1 in
+      let m = eqb-true (r .part) 2 (and-eq-true-iff (eqb (r .rule) n) (eqb (r .part) 2) .0 l .1) in
+      ne-eqb (r .part) 1 (λ e. omega arith)
+
+  -- its reasons are four at most
+  pub reasons-few : Lawful P → reasons-in program start mid ≤ 4
+  unfolding reasons-in
+  reasons-few w =
+      let f : Row → Bool = λ (r : Row). eqb (r .part) 1 in
+      let a = count-keep f (reasons P s n) in
+      let b = w .few-reasons s n in
+      rw (queries-are, keep-append f (reasons P s n) (context P s n), keep-none f (context P s n) no-reason, length-append (keep f (reasons P s n)) []) (omega arith)
+
+  no-queries : mid ≤ start → rows-between program start mid ≡ []
+  unfolding rows-between
+  no-queries h = rows-none program start mid h
+
+  module _ (words : List ℕ) (scalars : Scalars) where
+    abbrev C : Config
+    C = config-of words scalars
+
+    matches-are : rule-matches P C s n ≡ counted program words scalars rule-at start nothing-found
+    unfolding rule-matches counted
+    matches-are = ap (λ (l : List Row). keep (counts P C s n) (matches C l nothing-found)) (sym queries-are)
+
+    -- what the rule and those behind it fire
+    fires-from : n ≤ top P s → fires P C s n ≡ map (fired n) (counted program words scalars rule-at start nothing-found) ++ fires P C s (n + 1)
+    fires-from h = fires-next P C s n h ∙ ap (λ (l : List Found). map (fired n) l ++ fires P C s (n + 1)) matches-are
+
+    -- with no row to try it matches as it is
+    pub fires-as-it-is : n ≤ top P s → mid ≤ start → first-of (fires P C s n) ≡ fired n nothing-found ∷ []
+    unfolding counted matches counts
+    fires-as-it-is h k =
+        let a = parts-rise in
+        let o : is-object P s n ≡ false = sym object-are ∙ le-ltb start behind (omega arith) in
+        ap first-of (fires-from h) ∙ rw (no-queries k, o)
+
+    pub fires-by-answers : n ≤ top P s → start < mid → (r : Row) → r ≡ row-at program start → (f : Found) → f ≡ nothing-found →
+        fires P C s n ≡ bind (answers words scalars r f 0) (follow program words scalars rule-at start) ++ fires P C s (n + 1)
+    unfolding follow
+    fires-by-answers h k r e f q =
+        fires-from h
+        ∙ ap (λ (l : List Firing). l ++ fires P C s (n + 1))
+        (ap (λ (g : Found). map (fired n) (counted program words scalars rule-at start g)) (sym q)
+        ∙ ap (map (fired n)) (counted-next program words scalars rule-at start f k r e)
+        ∙ map-bind (fired n) (counted program words scalars rule-at (start + 1)) (answers words scalars r f 0))
+
+-- the answer of the search, as a firing
+module _ (n : ℕ) (m : Match) where
+  pub firing-none : m .found ≡ false → map (fired n) (match-of m) ≡ []
+  firing-none h = ap (map (fired n)) (match-none m h)
+
+  pub firing-one : m .found ≡ true → map (fired n) (match-of m) ≡ fired n (found-of (m .bindings)) ∷ []
+  firing-one h = ap (map (fired n)) (match-one m h)
+
+pub firing-first : (program words : List ℕ) (scalars : Scalars) (rule : Rule) (start : ℕ) (x : Found) (m : Match) →
+    match-of m ≡ first-of (counted program words scalars rule (start + 1) x) → map (fired (rule .number)) (match-of m) ≡ first-of (follow program words scalars rule start x)
+unfolding follow
+firing-first program words scalars rule start x m e =
+    ap (map (fired (rule .number))) e ∙ sym (first-map (fired (rule .number)) (counted program words scalars rule (start + 1) x))
+
+pub choice-none : (x : Choice) → x .found ≡ false → choice-of x ≡ []
+choice-none x h = ap (λ (b : Bool). when b (fired (x .rule .number) (found-of (x .bindings)))) h
+
+-- the choice so far: none has fired, and the first to fire is the first of the rules from n on, whose rows begin at start
+pub record Choosing (program words : List ℕ) (scalars : Scalars) (s : ℕ) (best : Choice) (n start : ℕ) : Type 0 where
+  pub none : best .found ≡ false
+  pub positive : 1 ≤ n
+  pub bound : Bound program s n 1 start
+  pub is : firing (rows-of program) (config-of words scalars) s ≡ first-of (fires (rows-of program) (config-of words scalars) s n)
+
+module _ (program words : List ℕ) (scalars : Scalars) (s : ℕ) (best : Choice) (n start : ℕ) (x : Choosing program words scalars s best n start) where
+  -- no row of the set is left
+  pub choice-ends : Lawful (rows-of program) → (start < length program / 8 → row-at program start .set ≢ s) → choice-of best ≡ firing (rows-of program) (config-of words scalars) s
+  choice-ends w h =
+      choice-none best (x .none)
+      ∙ sym (x .is ∙ ap first-of (fires-end (rows-of program) (config-of words scalars) s n (no-rule program w s n start (x .bound) (x .positive) h)))
+
+  pub not-chosen : {T : Type 0} → best .found ≡ true → T
+  not-chosen t = clash t (x .none)
+
+-- one rule is tried, by the answers of its first row from number c on, and then those behind it
+pub record Trying (program words : List ℕ) (scalars : Scalars) (rule : Rule) (best : Choice) (start : ℕ) (r : Row) (f : Found) (once : Bool) (c : ℕ) : Type 0 where
+  pub none : best .found ≡ false
+  pub at-first : once ≡ true → c ≡ 0
+  pub is : firing (rows-of program) (config-of words scalars) (rule .set)
+      ≡ first-of (bind (answers words scalars r f c) (follow program words scalars rule start) ++ fires (rows-of program) (config-of words scalars) (rule .set) (rule .number + 1))

@@ -1,0 +1,4 @@
+pub mod Plans
+pub mod Rows
+pub mod Rules
+pub mod Firing

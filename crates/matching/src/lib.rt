@@ -1,0 +1,371 @@
+// The matches of rules: the backtracking search over a rule's rows, the test for an equal plan, and the choice of the rule.
+use model::Row;
+use queries::Bindings;
+use queries::Match;
+use state::Scalars;
+ghost use mathlib.Core.Path.{_≡_};
+ghost use mathlib.Core.Bool.{true, _&&_};
+ghost use Prim.Native.Nat.{_+_, _-_, _*_, _/_, _<_, _≤_};
+ghost use lib.Dec.{eqb};
+ghost use lib.ListN.{length, take};
+ghost use Rattle.lists.specs.Lists.{Pairs, first-of, insert as inserted, rising-set as rising-set-of, same};
+ghost use Rattle.model.specs.Matching.{nothing-found, body-value, body-values, justifications-of, equal-plan, counts as counts-of, firing};
+ghost use Rattle.program.specs.Rows.{row-at, rows-of};
+ghost use Rattle.program_laws.specs.Lawful.{NotLater, Lawful};
+ghost use Rattle.spans.specs.Spans.{Bound};
+ghost use Rattle.state.specs.View.{plan-at, config-of};
+ghost use Rattle.queries.specs.View.{found-of, Limits, Fitted};
+ghost use Rattle.matching.specs.Rules.{rows-between, reasons-in, Located, counted, ids-of, Padded, choice-of, Chosen};
+
+// A rule: its set and number, where its body begins, which is where its reasons and context end, where its body ends, and
+// whether it is an object rule.
+pub struct Rule {
+    pub set: u32,
+    pub number: u32,
+    pub body: usize,
+    pub end: usize,
+    pub object: bool,
+}
+
+// Four ids at most, with zeros behind.
+pub struct Ids {
+    pub ids: [u32; 4],
+    pub count: usize,
+}
+
+// The rule that fires, and what its match found.
+pub struct Choice {
+    pub bindings: Bindings,
+    pub rule: Rule,
+    pub found: bool,
+}
+
+// A number into rising ids, once: each greater one gives way to the one before it.
+fn insert(n: u32, l: Ids) -> Ids
+    requires { ⌜ (l .count < 4) × Pairs (λ x y. x < y) (ids-of l) × Padded l ⌝ }
+    ensures is { λ r. ⌜ ids-of r ≡ inserted n (ids-of l) ⌝ }
+    ensures few { λ r. ⌜ r .count ≤ l .count + 1 ⌝ }
+    ensures padded { λ r. ⌜ Padded r ⌝ }
+{
+    let mut ids = l.ids;
+    let count = l.count;
+    let mut carried = n;
+    let mut j: usize = 0;
+    while j < count {
+        let x = ids[j];
+        if carried == x {
+            return Ids { ids, count };
+        }
+        if carried < x {
+            ids[j] = carried;
+            carried = x;
+            j += 1;
+            continue;
+        }
+        j += 1;
+    }
+    ids[count] = carried;
+    Ids {
+        ids,
+        count: count + 1,
+    }
+}
+
+// "justifications (ids its reasons matched, each once)", in rising order.
+pub fn rising_set(matched: [u32; 4], count: usize) -> Ids
+    requires { ⌜ count ≤ 4 ⌝ }
+    ensures is { λ r. ⌜ ids-of r ≡ rising-set-of (take count matched) ⌝ }
+    ensures few { λ r. ⌜ r .count ≤ count ⌝ }
+    ensures padded { λ r. ⌜ Padded r ⌝ }
+{
+    let mut l = Ids {
+        ids: [0; 4],
+        count: 0,
+    };
+    let mut j = count;
+    while 0 < j {
+        j -= 1;
+        l = insert(matched[j], l);
+    }
+    l
+}
+
+// "the same set of justifications": plan k's.
+fn same_justifications(words: &[u32], k: usize, l: Ids) -> bool
+    requires { ⌜ (length (now words) ≡ 2432) × (k < 64) × (l .count ≤ 4) ⌝ }
+    ensures { λ b. ⌜ b ≡ same (plan-at (now (words .entry)) k .justifications) (ids-of l) ⌝ }
+{
+    let n = queries::justification_count(words, k);
+    let ids = l.ids;
+    let count = l.count;
+    if n != count {
+        return false;
+    }
+    let mut j: usize = 0;
+    while j < count {
+        if state::plan_justification(words, k, j) != ids[j] {
+            return false;
+        }
+        j += 1;
+    }
+    true
+}
+
+// "the same values of the variables in its body": of one operand.
+fn same_value(words: &[u32], k: usize, x: u32, values: [u32; 8]) -> bool
+    requires { ⌜ (length (now words) ≡ 2432) × (k < 64) ⌝ }
+    ensures { λ b. ⌜ b ≡ eqb (body-value (plan-at (now (words .entry)) k .values) x) (body-value values x) ⌝ }
+{
+    if x == 0 {
+        return true;
+    }
+    if 9 <= x {
+        return true;
+    }
+    let i = (8 - x) as usize;
+    state::plan_value(words, k, i) == values[i]
+}
+
+// Of a row.
+fn same_row(words: &[u32], k: usize, r: Row, values: [u32; 8]) -> bool
+    requires { ⌜ (length (now words) ≡ 2432) × (k < 64) ⌝ }
+    ensures { λ b. ⌜ b ≡ (eqb (body-value (plan-at (now (words .entry)) k .values) (r .i)) (body-value values (r .i))
+        && (eqb (body-value (plan-at (now (words .entry)) k .values) (r .a)) (body-value values (r .a))
+        && eqb (body-value (plan-at (now (words .entry)) k .values) (r .b)) (body-value values (r .b)))) ⌝ }
+{
+    let i = same_value(words, k, r.i, values);
+    let a = same_value(words, k, r.a, values);
+    let b = same_value(words, k, r.b, values);
+    i & (a & b)
+}
+
+// Of the rows of a body.
+fn same_values<'a>(
+    program: &'a [u32],
+    words: &'a [u32],
+    k: usize,
+    from: usize,
+    to: usize,
+    values: [u32; 8],
+) -> bool
+    requires { ⌜ (to ≤ length (now program) / 8) × (length (now words) ≡ 2432) × (k < 64) ⌝ }
+    ensures { λ b. ⌜ b ≡ same (body-values (rows-between (now (program .entry)) from to) (plan-at (now (words .entry)) k .values))
+        (body-values (rows-between (now (program .entry)) from to) values) ⌝ }
+{
+    let mut j = from;
+    while j < to {
+        let r = program::row_at(program, j);
+        if !same_row(words, k, r, values) {
+            return false;
+        }
+        j += 1;
+    }
+    true
+}
+
+// "the same set and rule, the same set of justifications .. and the same values of the variables in its body": plan k.
+fn equal_plan<'a>(
+    program: &'a [u32],
+    words: &'a [u32],
+    rule: Rule,
+    k: usize,
+    l: Ids,
+    f: Bindings,
+) -> bool
+    requires { ⌜ Located (now program) rule × (length (now words) ≡ 2432) × (k < 64) × (l .count ≤ 4) × (ids-of l ≡ justifications-of (found-of f)) ⌝ }
+    ensures { λ b. ⌜ b ≡ equal-plan (rows-of (now (program .entry))) (rule .set) (rule .number) (found-of f) (plan-at (now (words .entry)) k) ⌝ }
+{
+    if state::plan_set(words, k) != rule.set {
+        return false;
+    }
+    if state::plan_rule(words, k) != rule.number {
+        return false;
+    }
+    if !same_justifications(words, k, l) {
+        return false;
+    }
+    let values = f.values;
+    same_values(program, words, k, rule.body, rule.end, values)
+}
+
+// "An object rule's match counts only if no live plan has the same .."
+fn counts<'a>(program: &'a [u32], words: &'a [u32], s: Scalars, rule: Rule, f: Bindings) -> bool
+    requires { ⌜ Located (now program) rule × Limits (now words) s × (f .count ≤ 4) ⌝ }
+    ensures { λ b. ⌜ b ≡ counts-of (rows-of (now (program .entry))) (config-of (now (words .entry)) s) (rule .set) (rule .number) (found-of f) ⌝ }
+{
+    if !rule.object {
+        return true;
+    }
+    let matched = f.matched;
+    let l = rising_set(matched, f.count);
+    let n = s.plans as usize;
+    let mut k: usize = 0;
+    while k < n {
+        if equal_plan(program, words, rule, k, l, f) {
+            return false;
+        }
+        k += 1;
+    }
+    true
+}
+
+// The first match of the rows from k up to the rule's body that counts. "Rows are tried left to right, .. candidates in rising id":
+// the search calls itself on the rows that remain. A row that leaves everything as it was is tried once.
+pub fn search<'a>(
+    program: &'a [u32],
+    words: &'a [u32],
+    s: Scalars,
+    rule: Rule,
+    k: usize,
+    f: Bindings,
+) -> Match
+    requires { ⌜ Located (now program) rule × Limits (now words) s × (f .count + reasons-in (now program) k (rule .body) ≤ 4) ⌝ }
+    ensures { λ m. ⌜ Fitted (first-of (counted (now (program .entry)) (now (words .entry)) s rule k (found-of f))) 4 m ⌝ }
+{
+    if rule.body <= k {
+        return Match {
+            bindings: f,
+            found: counts(program, words, s, rule, f),
+        };
+    }
+    let r = program::row_at(program, k);
+    let values = f.values;
+    let once = queries::closes(r, values);
+    let mut c: usize = 0;
+    loop {
+        let x = queries::next_answer(words, s, r, c, f);
+        if !x.found {
+            return Match {
+                bindings: f,
+                found: false,
+            };
+        }
+        let after = x.bindings;
+        let m = search(program, words, s, rule, k + 1, after);
+        if m.found {
+            return m;
+        }
+        if once {
+            return Match {
+                bindings: f,
+                found: false,
+            };
+        }
+        c = x.next;
+    }
+}
+
+// Whether row k is one of this part.
+fn is_part(program: &[u32], k: usize, set: u32, rule: u32, part: u32) -> bool
+    requires { ⌜ k * 8 + 8 ≤ length (now program) ⌝ }
+    ensures { λ b. ⌜ b ≡ (eqb (row-at (now (program .entry)) k .set) set
+        && (eqb (row-at (now (program .entry)) k .rule) rule && eqb (row-at (now (program .entry)) k .part) part)) ⌝ }
+{
+    let at = k * 8;
+    let s = program[at];
+    let n = program[at + 1];
+    let p = program[at + 2];
+    (s == set) & ((n == rule) & (p == part))
+}
+
+// Where a part's rows end that begin at `from`.
+fn part_end(program: &[u32], from: usize, set: u32, rule: u32, part: u32) -> usize
+    requires { ⌜ Pairs NotLater (rows-of (now program)) × Bound (now program) set rule part from ⌝ }
+    ensures { λ r. ⌜ Bound (now (program .entry)) set rule (part + 1) r ⌝ }
+{
+    let n = program.len() / 8;
+    let mut k = from;
+    while k < n {
+        if !is_part(program, k, set, rule, part) {
+            return k;
+        }
+        k += 1;
+    }
+    k
+}
+
+// Nothing is found yet.
+fn nothing() -> Bindings
+    ensures { λ f. ⌜ (found-of f ≡ nothing-found) × (f .count ≡ 0) ⌝ }
+{
+    Bindings {
+        values: [state::NO_VALUE; 8],
+        matched: [0; 4],
+        count: 0,
+    }
+}
+
+// "the first rule in rising number that has a match": the rule that fires, its match, and where its body stands.
+pub fn choose<'a>(program: &'a [u32], words: &'a [u32], s: Scalars, set: u32) -> Choice
+    requires { ⌜ Lawful (rows-of (now program)) × Limits (now words) s ⌝ }
+    ensures is { λ x. ⌜ choice-of x ≡ firing (rows-of (now (program .entry))) (config-of (now (words .entry)) s) set ⌝ }
+    ensures chosen { λ x. ⌜ (x .found ≡ true → Chosen (now (program .entry)) set x) ⌝ }
+{
+    let f = nothing();
+    let values = f.values;
+    let mut best = Choice {
+        bindings: f,
+        rule: Rule {
+            set,
+            number: 0,
+            body: 0,
+            end: 0,
+            object: false,
+        },
+        found: false,
+    };
+    let n = program.len() / 8;
+    let mut number: u32 = 1;
+    let mut start = spans::first_from(program, set, 1, 1);
+    'rules: while start < n {
+        if program[start * 8] != set {
+            break 'rules;
+        }
+        let context = part_end(program, start, set, number, 1);
+        let body = part_end(program, context, set, number, 2);
+        let end = part_end(program, body, set, number, 3);
+        let rule = Rule {
+            set,
+            number,
+            body,
+            end,
+            object: start < context,
+        };
+        // with no row to try it matches as it is
+        if body <= start {
+            best = Choice {
+                bindings: f,
+                rule,
+                found: true,
+            };
+            break 'rules;
+        }
+        let r = program::row_at(program, start);
+        let once = queries::closes(r, values);
+        let mut c: usize = 0;
+        'candidates: loop {
+            let x = queries::next_answer(words, s, r, c, f);
+            if !x.found {
+                break 'candidates;
+            }
+            let after = x.bindings;
+            let m = search(program, words, s, rule, start + 1, after);
+            if m.found {
+                let b = m.bindings;
+                best = Choice {
+                    bindings: b,
+                    rule,
+                    found: true,
+                };
+                break 'rules;
+            }
+            if once {
+                break 'candidates;
+            }
+            c = x.next;
+        }
+        number += 1;
+        start = end;
+    }
+    best
+}

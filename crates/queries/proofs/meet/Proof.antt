@@ -1,0 +1,56 @@
+-- Each way through the code is one of the model's, and a place of the array holds what the model reads there.
+use borrow.Author.Needs.{needs}
+use borrow.Author.Tests.{eq-eqb, ne-eqb, le-leb, lt-leb}
+use mathlib.Core.Path.{_≡_}
+use Prim.Native.Nat.{_-_}
+use native.Mathlib.Omega.{arith}
+use lib.ListN.{length}
+use Rattle.model.specs.Matching.{meet}
+use Rattle.lists.proofs.Tables.{get-within}
+use Rattle.queries.proofs.meet.Statement.{statement}
+use Rattle.queries.proofs.meet.Tie as tie
+
+returns : tie.Need-returns
+unfolding meet
+returns c = simp (eq-eqb _ _ (c .if1 .taken))
+
+returns-2 : tie.Need-returns-2
+unfolding meet
+returns-2 c = simp (ne-eqb _ _ (c .before .if1 .left), le-leb _ _ (c .if2 .taken))
+
+sub-k : tie.Need-sub-k
+sub-k c = search needs
+
+cast-k : tie.Need-cast-k
+cast-k c = search needs
+
+mul-v : tie.Need-mul-v
+mul-v c = search needs
+
+array-read-v : tie.Need-array-read-v
+array-read-v c = search needs
+
+mul-after : tie.Need-mul-after
+mul-after c = search needs
+
+array-write-after : tie.Need-array-write-after
+array-write-after c = search needs
+
+returns-3 : tie.Need-returns-3
+unfolding meet
+returns-3 c =
+    let a = c .before .before .before .args in
+    let l : length (a .t3) ≡ 8 = search needs in
+    let e = get-within (a .t3) (8 - a .x) 65536 0 (omega arith) in
+    simp (ne-eqb _ _ (c .before .before .if1 .left), lt-leb _ _ (c .before .if2 .left), e, eq-eqb _ _ (c .if3 .taken))
+
+returns-4 : tie.Need-returns-4
+unfolding meet
+returns-4 c =
+    let a = c .before .before .before .args in
+    let l : length (a .t3) ≡ 8 = search needs in
+    let e = get-within (a .t3) (8 - a .x) 65536 0 (omega arith) in
+    simp (ne-eqb _ _ (c .before .before .if1 .left), lt-leb _ _ (c .before .if2 .left), e, ne-eqb _ _ (c .if3 .left))
+
+pub meet-spec : {M : Type 1} → statement M
+meet-spec = tie.close (tie.spec returns returns-2 sub-k cast-k mul-v array-read-v mul-after array-write-after returns-3 returns-4)

@@ -1,0 +1,52 @@
+-- What the code's structs say in the model's terms, and what the queries ask of the words.
+use mathlib.Core.Path.{_≡_}
+use mathlib.Core.Bool.{true}
+use mathlib.Core.Logic.{_≢_}
+use mathlib.Core.List.{List, []}
+use Prim.Native.Nat.{ℕ, _+_, _<_, _≤_}
+use lib.Dec.{eqb}
+use lib.ListN.{length, take}
+use Rattle.lists.specs.Lists.{bit, when}
+use Rattle.model.specs.declared.Row.{Row}
+use Rattle.model.specs.Matching.{Candidate, candidate, meet, Found}
+use Rattle.state.specs.declared.Scalars.{Scalars}
+use Rattle.state.specs.View.{plan-at}
+use Rattle.queries.specs.declared.Bindings.{Bindings}
+use Rattle.queries.specs.declared.Met.{Met}
+use Rattle.queries.specs.declared.Columns.{Columns}
+use Rattle.queries.specs.declared.Wanted.{Wanted}
+use Rattle.queries.specs.declared.Match.{Match}
+
+-- the values so far, and the ids that the reasons matched
+abbrev pub found-of : Bindings → Found
+found-of f = record { values = f .values; matched = take (f .count) (f .matched) }
+
+-- one answer or none
+abbrev pub met-of : Met → List (List ℕ)
+met-of m = when (m .found) (m .values)
+
+abbrev pub candidate-of : Columns → List Candidate
+candidate-of x = when (x .there) (candidate (x .i) (x .a) (x .b))
+
+abbrev pub match-of : Match → List Found
+match-of m = when (m .found) (found-of (m .bindings))
+
+-- words of a configuration: as many as there are, no more live than may, sixteen flags to a plan
+pub record Limits (words : List ℕ) (s : Scalars) : Type 0 where
+  pub long : length words ≡ 2432
+  pub atoms : s .atoms ≤ 256
+  pub plans : s .plans ≤ 64
+  pub flags : (k : ℕ) → k < s .plans → plan-at words k .flags ≤ 65535
+
+-- how many ids may be matched after the row
+abbrev pub room : Row → Bindings → ℕ
+room r f = f .count + bit (eqb (r .part) 1)
+
+-- what a candidate gave is l, with no more ids matched than may be
+pub record Fitted (l : List Found) (most : ℕ) (m : Match) : Type 0 where
+  pub is : match-of m ≡ l
+  pub few : m .bindings .count ≤ most
+
+-- no number but the one that is wanted meets the operand
+pub record Wants (w : Wanted) (x : ℕ) (values : List ℕ) : Type 0 where
+  pub misses : w .known ≡ true → (n : ℕ) → n ≢ w .number → meet x n values ≡ []
