@@ -1,18 +1,18 @@
--- A step that is refused has a refusal's number, which is never 0.
+-- A sense or a step that is refused has a refusal's number, which is never 0.
 use mathlib.Core.Bool.{Bool, true, false, not, _||_}
 use mathlib.Core.List.{List, [], _∷_}
 use Prim.Native.Nat.{ℕ, _+_, _≤_}
 use native.Mathlib.Omega.{arith}
-use lib.Dec.{eqb, leb}
+use lib.Dec.{eqb, leb, ltb}
 use lib.ListN.{length}
-use Rattle.lists.specs.Lists.{if_then_else_, keep}
+use Rattle.lists.specs.Lists.{if_then_else_, keep, every}
 use Rattle.model.specs.declared.Row.{Row}
 use Rattle.model.specs.Program.{sets, is-object}
 use Rattle.model.specs.Configuration.{Plan, Config, most-atoms, most-plans, last-next, operand, remainder, atom-alive, plan-alive}
 use Rattle.model.specs.WellFormed.{given-well}
 use Rattle.model.specs.Matching.{Firing, firing}
-use Rattle.model.specs.Log.{Log, Outcome, refused, accepted, and-then, unless}
-use Rattle.model.specs.Calls.{room-for-atom, room-for-plan, make-atom, fire-object, Action, acted, stopped, barred, acted-on, add-action, act, after-action, act-all, fire, fire-first, is-due, end-cycle, succeed, fail, exists-atom, take-step, pass-over, execute-plan, execute, step}
+use Rattle.model.specs.Log.{Log, begin, Outcome, refused, accepted, and-then, unless}
+use Rattle.model.specs.Calls.{Reading, in-range, room-for-atom, room-for-plan, make-atom, sense-row, sense-rows, sense, fire-object, Action, acted, stopped, barred, acted-on, add-action, act, after-action, act-all, fire, fire-first, is-due, end-cycle, succeed, fail, exists-atom, take-step, pass-over, execute-plan, execute, step}
 
 unfoldable pub Numbered : Outcome → Type 0
 Numbered (refused n) = 1 ≤ n
@@ -120,3 +120,18 @@ module _ (program : List Row) (c : Config) where
       unless-numbered (not (given-well program c)) 1 _ (omega arith)
       (unless-numbered (eqb (c .phase) 0 || not (eqb (c .waiting) 0)) 6 _ (omega arith)
       (either-numbered (leb (c .phase) (sets program)) _ _ (first-numbered (firing program c (c .phase))) (exec-numbered (keep is-due (c .plans)))))
+
+-- SENSE
+rows-numbered : (program : List Row) (rs : List Reading) (L : Log) → Numbered (sense-rows program rs L)
+unfolding sense-rows sense-row make-atom
+rows-numbered program [] L = done-numbered L
+rows-numbered program (r ∷ rs) L = then-numbered (sense-row program r L) (sense-rows program rs)
+    (either-numbered (eqb (r .sign) 1) _ _ (room-numbered L _ (done-numbered _)) (done-numbered _)) (λ M. rows-numbered program rs M)
+
+pub sense-numbered : (program : List Row) (c : Config) (rs : List Reading) → Numbered (sense program c rs)
+unfolding sense
+sense-numbered program c rs =
+    unless-numbered (not (given-well program c)) 1 _ (omega arith)
+    (unless-numbered (not (eqb (c .phase) 0) || not (eqb (c .waiting) 0)) 6 _ (omega arith)
+    (unless-numbered (ltb 64 (length rs) || not (every in-range rs)) 7 _ (omega arith)
+    (then-numbered (sense-rows program rs (begin c)) _ (rows-numbered program rs (begin c)) (λ L. done-numbered _))))

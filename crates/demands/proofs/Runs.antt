@@ -13,7 +13,8 @@ use Rattle.model.specs.WellFormed.{given-well}
 use Rattle.model.specs.Log.{Log, Outcome, refused, accepted}
 use Rattle.model.specs.Calls.{step}
 use Rattle.model.specs.Run.{Stop, at-phase-0, at-waiting, at-limit, next-refused, Run, stopped, and-before, after-step, step-then, steps-of, RunOutcome, run-refused, ran, run}
-use Rattle.model.specs.Claims.{Stays, InTurn, StopsRightly, RunInTurn, RunIsItsSteps}
+use Rattle.demands.proofs.Calls.{keeps-well-formed}
+use Rattle.model.specs.Claims.{to-step, work, Stays, InTurn, StopsRightly, RunInTurn, RunIsItsSteps}
 
 -- a run that stops at once
 stops : (program : List Row) (c : Config) (n : ℕ) (w : Stop) → StopsRightly program n 0 c w → RunInTurn program c n (stopped c w)
@@ -87,3 +88,32 @@ run-is-its-steps program c n r e = at (not (given-well program c)) (eqb (c .phas
     at false false false l i j z = not-ran z
     at false false true true i j z = not-ran z
     at false false true false i j z = subst (RunInTurn program c n) (cc z) (in-turn program n c (eqb-false (c .phase) 0 i, eqb-true (c .waiting) 0 j))
+
+-- a run leaves what is well formed
+pub run-keeps : (program : List Row) (n : ℕ) (c : Config) → given-well program c ≡ true → given-well program (steps-of program n c .config) ≡ true
+unfolding steps-of step-then stopped and-before after-step work
+run-keeps program zero c g = g
+run-keeps program (suc n) c g = at (step program c) refl (run-keeps program n)
+  where
+    after : (d : Config) → given-well program d ≡ true → ((x : Config) → given-well program x ≡ true → given-well program (steps-of program n x .config) ≡ true) → given-well program (after-step d (steps-of program n) .config) ≡ true
+    after d h ih = by (eqb (d .phase) 0) (eqb (d .waiting) 0)
+      where
+        by : (a b : Bool) → given-well program ((if a then stopped d at-phase-0 else if not b then stopped d at-waiting else steps-of program n d) .config) ≡ true
+        by true b = h
+        by false false = h
+        by false true = ih d h
+
+    at : (o : Outcome) → step program c ≡ o → ((x : Config) → given-well program x ≡ true → given-well program (steps-of program n x .config) ≡ true) → given-well program (step-then c (steps-of program n) o .config) ≡ true
+    at (refused m) e ih = g
+    at (accepted L) e ih = after (L .config) (keeps-well-formed .calls-keep (to-step program) c L e) ih
+
+pub ran-keeps : (program : List Row) (c : Config) (n : ℕ) (r : Run) → run program c n ≡ ran r → given-well program (r .config) ≡ true
+unfolding run
+ran-keeps program c n r e = at (given-well program c) (eqb (c .phase) 0 || not (eqb (c .waiting) 0)) (not (within 1 10000 n)) refl e
+  where
+    at : (g p l : Bool) → given-well program c ≡ g →
+        (if not g then run-refused 1 else if p then run-refused 6 else if l then run-refused 7 else ran (steps-of program n c)) ≡ ran r → given-well program (r .config) ≡ true
+    at false p l i z = not-ran z
+    at true true l i z = not-ran z
+    at true false true i z = not-ran z
+    at true false false i z = let same : steps-of program n c ≡ r = cc z in subst (λ (x : Run). given-well program (x .config) ≡ true) same (run-keeps program n c i)

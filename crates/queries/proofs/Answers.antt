@@ -1,7 +1,7 @@
 -- The answers of a row by number are the model's, in its order; and a row that is closed leaves everything as it was.
 use mathlib.Core.Path.{_≡_, refl, sym, ap, _∙_, subst}
 use mathlib.Core.Bool.{Bool, true, false, not, _||_, and-eq-true-iff}
-use mathlib.Core.List.{List, [], _∷_, _++_}
+use mathlib.Core.List.{List, [], _∷_, _++_, map}
 use mathlib.Core.Logic.{_≢_}
 use Prim.Native.Nat.{ℕ, _+_, _*_, _/_, _%_, _≤_, _<_}
 use native.Mathlib.Nat.{sub-zero}
@@ -25,7 +25,8 @@ use Rattle.queries.specs.declared.Columns.{Columns}
 use Rattle.queries.specs.declared.Wanted.{Wanted}
 use Rattle.queries.specs.declared.Match.{Match}
 use Rattle.queries.specs.declared.Answer.{Answer}
-use Rattle.queries.specs.View.{found-of, candidate-of, match-of, Wants}
+use Rattle.queries.specs.View.{found-of, candidate-of, match-of, Wants, is-unlike}
+use Rattle.queries.proofs.Unlike.{unlike-fits-not}
 use Rattle.queries.specs.Answers.{taken, atom-candidate, justification-candidate, count-of, candidate-at, fit-at, hits, answers, onward, settled, closed}
 use Rattle.queries.proofs.Laws.{justifications-few}
 
@@ -61,9 +62,9 @@ module _ (words : List ℕ) (s : Scalars) (r : Row) (f : Found) (c : ℕ) where
     unfolding fit-at
     hits-absent t = hits-skip h (ap (λ (l : List Candidate). bind l (λ k. taken r k f)) (sym is ∙ ap (λ (b : Bool). when b (candidate (x .i) (x .a) (x .b))) t))
 
-    pub hits-unwanted : x .there ≡ true → (w : Wanted) → Wants w (r .i) (f .values) → w .known ≡ true → x .i ≢ w .number → hits words s r f c ≡ hits words s r f (c + 1)
-    unfolding taken fit
-    hits-unwanted t w v k n = hits-skip h (fit-is t ∙ rw (v .misses k (x .i) n))
+    pub hits-unlike : x .there ≡ true → (i a b : Wanted) → Wants i (r .i) (f .values) → Wants a (r .a) (f .values) → Wants b (r .b) (f .values) → is-unlike i a b x ≡ true → hits words s r f c ≡ hits words s r f (c + 1)
+    unfolding taken
+    hits-unlike t i a b wi wa wb e = hits-skip h (fit-is t ∙ ap (map (found r (candidate (x .i) (x .a) (x .b)) f)) (unlike-fits-not r (f .values) i a b wi wa wb x e))
 
     module _ (t : x .there ≡ true) (m : Match) (e : match-of m ≡ taken r (candidate (x .i) (x .a) (x .b)) f) where
       pub hits-none : m .found ≡ false → hits words s r f c ≡ hits words s r f (c + 1)

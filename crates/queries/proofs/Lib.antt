@@ -1,3 +1,4 @@
 pub mod Laws
+pub mod Unlike
 pub mod Answers
 pub mod Limits

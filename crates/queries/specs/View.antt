@@ -1,6 +1,6 @@
 -- What the code's structs say in the model's terms, and what the queries ask of the words.
 use mathlib.Core.Path.{_≡_}
-use mathlib.Core.Bool.{true}
+use mathlib.Core.Bool.{Bool, true, not, _&&_, _||_}
 use mathlib.Core.Logic.{_≢_}
 use mathlib.Core.List.{List, []}
 use Prim.Native.Nat.{ℕ, _+_, _<_, _≤_}
@@ -8,6 +8,7 @@ use lib.Dec.{eqb}
 use lib.ListN.{length, take}
 use Rattle.lists.specs.Lists.{bit, when}
 use Rattle.model.specs.declared.Row.{Row}
+use Rattle.model.specs.Configuration.{no-value, value-of}
 use Rattle.model.specs.Matching.{Candidate, candidate, meet, Found}
 use Rattle.state.specs.declared.Scalars.{Scalars}
 use Rattle.state.specs.View.{plan-at}
@@ -47,6 +48,17 @@ pub record Fitted (l : List Found) (most : ℕ) (m : Match) : Type 0 where
   pub is : match-of m ≡ l
   pub few : m .bindings .count ≤ most
 
--- no number but the one that is wanted meets the operand
+-- values that others may come to: what has a value keeps it
+abbrev pub Grown : List ℕ → List ℕ → Type 0
+Grown values v = (y : ℕ) → value-of values y ≢ no-value → value-of v y ≡ value-of values y
+
+-- no number but the one that is wanted meets the operand, now and once more variables have values
 pub record Wants (w : Wanted) (x : ℕ) (values : List ℕ) : Type 0 where
-  pub misses : w .known ≡ true → (n : ℕ) → n ≢ w .number → meet x n values ≡ []
+  pub misses : w .known ≡ true → (n : ℕ) → n ≢ w .number → (v : List ℕ) → Grown values v → meet x n v ≡ []
+
+-- a number that is not the one that is wanted
+abbrev pub unlike : Wanted → ℕ → Bool
+unlike w n = w .known && not (eqb n (w .number))
+
+abbrev pub is-unlike : Wanted → Wanted → Wanted → Columns → Bool
+is-unlike i a b x = unlike i (x .i) || (unlike a (x .a) || unlike b (x .b))

@@ -8,7 +8,7 @@ ghost use lib.ListN.{length};
 ghost use Rattle.model.specs.Configuration.{has-flag};
 ghost use Rattle.model.specs.Matching.{candidate, meet as met-with, fit as fit-of};
 ghost use Rattle.state.specs.View.{atom-at, plan-at};
-ghost use Rattle.queries.specs.View.{found-of, met-of, candidate-of, Limits, room, Fitted, Wants};
+ghost use Rattle.queries.specs.View.{found-of, met-of, candidate-of, Limits, room, Fitted, Wants, is-unlike};
 ghost use Rattle.queries.specs.Answers.{taken, atom-candidate, plan-candidate, remainder-candidate, justification-candidate, subgoal-candidate, state-candidate, count-of, candidate-at, hits, answers, width, Next, settled, closed};
 
 // What is found so far: the values of variables 1 to 8, and the ids that the reasons matched, of which there are `count`.
@@ -344,23 +344,33 @@ fn wanted_by(x: u32, values: [u32; 8]) -> Wanted
     }
 }
 
-// The first candidate from `from` on that fits. One with another id than the row wants is passed over at once.
+// One of the candidate's columns is not the number that is wanted there.
+fn is_unlike(i: Wanted, a: Wanted, b: Wanted, x: Columns) -> bool
+    ensures { λ r. ⌜ r ≡ is-unlike i a b x ⌝ }
+{
+    (i.known & (x.i != i.number)) | ((a.known & (x.a != a.number)) | (b.known & (x.b != b.number)))
+}
+
+// The first candidate from `from` on that fits. One with other columns than the row wants is passed over at once.
 fn next_fit(words: &[u32], s: Scalars, r: Row, from: usize, f: Bindings) -> Answer
     requires { ⌜ Limits (now words) s × (room r f ≤ 4) ⌝ }
     ensures { λ x. ⌜ Next (hits (now (words .entry)) s r (found-of f)) from (count-of s r) (room r f) x ⌝ }
 {
     let n = count(s, r);
     let values = f.values;
-    let w = wanted_by(r.i, values);
+    let i = wanted_by(r.i, values);
+    let a = wanted_by(r.a, values);
+    let b = wanted_by(r.b, values);
     let mut c = from;
     while c < n {
+        let next = c + 1;
         let x = candidate_at(words, s, r, c);
         if !x.there {
-            c += 1;
+            c = next;
             continue;
         }
-        if w.known & (x.i != w.number) {
-            c += 1;
+        if is_unlike(i, a, b, x) {
+            c = next;
             continue;
         }
         let m = take(r, x.i, x.a, x.b, f);
@@ -368,11 +378,11 @@ fn next_fit(words: &[u32], s: Scalars, r: Row, from: usize, f: Bindings) -> Answ
             let b = m.bindings;
             return Answer {
                 bindings: b,
-                next: c + 1,
+                next,
                 found: true,
             };
         }
-        c += 1;
+        c = next;
     }
     Answer {
         bindings: f,

@@ -1,25 +1,24 @@
 -- The loop's invariant: what the candidates from `from` on give is what those from c on give.
 use borrow.Author.Needs.{needs}
-use borrow.Author.Tests.{not-true, not-false, eqb-false}
-use mathlib.Core.Path.{_≡_, refl, _∙_}
-use mathlib.Core.Bool.{not, false≢true, and-eq-true-iff}
+use borrow.Author.Tests.{not-true, not-false}
+use mathlib.Core.Path.{_≡_, refl, sym, _∙_}
+use mathlib.Core.Bool.{false≢true}
 use Prim.Native.Nat.{_-_, _≤_, _<_}
 use native.Mathlib.Omega.{arith}
-use lib.Dec.{eqb}
 use Rattle.queries.specs.View.{found-of}
 use Rattle.queries.specs.Answers.{count-of, hits}
-use Rattle.queries.proofs.Answers.{hits-end, hits-absent, hits-unwanted, hits-none, hits-one}
+use Rattle.queries.proofs.Answers.{hits-end, hits-absent, hits-unlike, hits-none, hits-one}
 use Rattle.queries.proofs.next_fit.Statement.{statement}
 use Rattle.queries.proofs.next_fit.Tie as tie
 
 abbrev Inv-loop : tie.InvT-loop
-Inv-loop words s r from f n w c₀ c = (from ≤ c) × (hits words s r (found-of f) from ≡ hits words s r (found-of f) c)
+Inv-loop words s r from f n i a b c₀ c = (from ≤ c) × (hits words s r (found-of f) from ≡ hits words s r (found-of f) c)
 
 abbrev μ-loop : tie.MeasureT-loop
-μ-loop words s r from f n w c₀ c = n - c
+μ-loop words s r from f n i a b c₀ c = n - c
 
-within : (c : tie.In-loop Inv-loop μ-loop) → let a = c .before .before .before .before .before .before .args in c .before .loop .c < count-of (a .s) (a .r)
-within c = let n = c .before .before .before .before .count .ensures in omega arith
+within : (c : tie.In-loop Inv-loop μ-loop) → let a = c .before .before .before .before .before .before .before .before .args in c .before .loop .c < count-of (a .s) (a .r)
+within c = let n = c .before .before .before .before .before .before .count .ensures in omega arith
 
 count-requires : tie.Need-count-requires Inv-loop μ-loop
 count-requires c κs = search needs
@@ -27,14 +26,20 @@ count-requires c κs = search needs
 wanted-by-requires : tie.Need-wanted-by-requires Inv-loop μ-loop
 wanted-by-requires c κs = search needs
 
+wanted-by-requires-2 : tie.Need-wanted-by-requires-2 Inv-loop μ-loop
+wanted-by-requires-2 c κs = search needs
+
+wanted-by-requires-3 : tie.Need-wanted-by-requires-3 Inv-loop μ-loop
+wanted-by-requires-3 c κs = search needs
+
 loop-holds : tie.Need-loop-holds Inv-loop μ-loop
 loop-holds c = (omega arith, refl)
 
-candidate-at-requires : tie.Need-candidate-at-requires Inv-loop μ-loop
-candidate-at-requires c κs = (c .before .before .before .before .before .before .pre .0, within c)
+add-next : tie.Need-add-next Inv-loop μ-loop
+add-next c = omega arith
 
-add-c : tie.Need-add-c Inv-loop μ-loop
-add-c c = omega arith
+candidate-at-requires : tie.Need-candidate-at-requires Inv-loop μ-loop
+candidate-at-requires c κs = (c .before .before .before .before .before .before .before .before .pre .0, within c)
 
 loop-less : tie.Need-loop-less Inv-loop μ-loop
 loop-less c = omega arith
@@ -45,31 +50,27 @@ loop-again c =
     let t = x .before in
     (omega arith, t .before .loop .inv .1 ∙ hits-absent _ _ _ _ _ (within t) (x .candidate-at .result) (x .candidate-at .ensures) (not-true _ (c .if1 .taken)))
 
-add-c-2 : tie.Need-add-c-2 Inv-loop μ-loop
-add-c-2 c = omega arith
+is-unlike-requires : tie.Need-is-unlike-requires Inv-loop μ-loop
+is-unlike-requires c κs = search needs
 
 loop-less-2 : tie.Need-loop-less-2 Inv-loop μ-loop
 loop-less-2 c = omega arith
 
 loop-again-2 : tie.Need-loop-again-2 Inv-loop μ-loop
 loop-again-2 c =
-    let i = c .before .before .before .before in
+    let i = c .before .before in
     let x = i .before .before in
     let t = x .before in
     let w = t .before .before in
-    let k = and-eq-true-iff (w .wanted-by .result .known) (not (eqb (x .candidate-at .result .i) (w .wanted-by .result .number))) .0 (c .if2 .taken) in
-    (omega arith, t .before .loop .inv .1 ∙ hits-unwanted _ _ _ _ _ (within t) (x .candidate-at .result) (x .candidate-at .ensures) (not-false _ (i .if1 .left)) (w .wanted-by .result) (w .wanted-by .ensures) (k .0) (eqb-false _ _ (not-true _ (k .1))))
+    (omega arith, t .before .loop .inv .1 ∙ hits-unlike _ _ _ _ _ (within t) (x .candidate-at .result) (x .candidate-at .ensures) (not-false _ (i .if1 .left)) (w .before .before .wanted-by .result) (w .before .wanted-by2 .result) (w .wanted-by3 .result) (w .before .before .wanted-by .ensures) (w .before .wanted-by2 .ensures) (w .wanted-by3 .ensures) (sym (c .before .is-unlike .ensures) ∙ c .if2 .taken))
 
 take-requires : tie.Need-take-requires Inv-loop μ-loop
-take-requires c κs = (c .before .before .before .before .before .before .before .before .before .before .before .before .before .pre) .1
-
-add-t15 : tie.Need-add-t15 Inv-loop μ-loop
-add-t15 c = omega arith
+take-requires c κs = c .before .before .before .before .before .before .before .before .before .before .before .before .before .pre .1
 
 returns : tie.Need-returns Inv-loop μ-loop
 returns c =
     let m = c .before .before in
-    let i = m .before .before .before .before .before in
+    let i = m .before .before .before in
     let x = i .before .before in
     let t = x .before in
     let h = within t in
@@ -79,16 +80,13 @@ returns c =
       few = m .take .ensures .few;
     }
 
-add-c-3 : tie.Need-add-c-3 Inv-loop μ-loop
-add-c-3 c = omega arith
-
 loop-less-3 : tie.Need-loop-less-3 Inv-loop μ-loop
 loop-less-3 c = omega arith
 
 loop-again-3 : tie.Need-loop-again-3 Inv-loop μ-loop
 loop-again-3 c =
     let m = c .before in
-    let i = m .before .before .before .before .before in
+    let i = m .before .before .before in
     let x = i .before .before in
     let t = x .before in
     (omega arith, t .before .loop .inv .1 ∙ hits-none _ _ _ _ _ (within t) (x .candidate-at .result) (x .candidate-at .ensures) (not-false _ (i .if1 .left)) (m .take .result) (m .take .ensures .is) (c .if3 .left))
@@ -96,7 +94,7 @@ loop-again-3 c =
 returns-2 : tie.Need-returns-2 Inv-loop μ-loop
 returns-2 c =
     let i = c .before in
-    let n = i .before .before .before .count .ensures in
+    let n = c .before .before .before .before .before .before .count .ensures in
     record {
       is = i .loop .inv .1 ∙ hits-end _ _ _ _ _ (omega arith);
       further = λ t. absurd (false≢true t);
@@ -111,18 +109,18 @@ next-fit-spec =
     μ-loop
     count-requires
     wanted-by-requires
+    wanted-by-requires-2
+    wanted-by-requires-3
     loop-holds
+    add-next
     candidate-at-requires
-    add-c
     loop-less
     loop-again
-    add-c-2
+    is-unlike-requires
     loop-less-2
     loop-again-2
     take-requires
-    add-t15
     returns
-    add-c-3
     loop-less-3
     loop-again-3
     returns-2)

@@ -1,13 +1,14 @@
 -- A constant and a variable with a value meet one number each.
 use borrow.Author.Needs.{needs}
-use borrow.Author.Tests.{ne-eqb, le-leb, lt-leb, not-true}
-use mathlib.Core.Path.{_≡_, sym}
+use borrow.Author.Tests.{eqb-false, ne-eqb, le-leb, lt-leb, not-true}
+use mathlib.Core.Path.{_≡_, sym, _∙_}
 use mathlib.Core.Bool.{false, false≢true}
 use Prim.Native.Nat.{_-_}
 use native.Mathlib.Omega.{arith}
 use lib.Dec.{eqb}
 use lib.ListN.{length, getD}
 use Rattle.lists.proofs.Tables.{get-within}
+use Rattle.model.specs.Configuration.{value-of}
 use Rattle.model.specs.Matching.{meet}
 use Rattle.queries.proofs.wanted_by.Statement.{statement}
 use Rattle.queries.proofs.wanted_by.Tie as tie
@@ -17,7 +18,7 @@ unfolding meet
 returns c =
     let x = c .before .args .x in
     let z : eqb x 0 ≡ false = ne-eqb x 0 (λ (e : x ≡ 0). let h = c .if1 .taken in omega arith) in
-    record { misses = λ t n h. rw (z, le-leb _ _ (c .if1 .taken), ne-eqb (x - 9) n (λ e. h (sym e))) }
+    record { misses = λ t n h v g. rw (z, le-leb _ _ (c .if1 .taken), ne-eqb (x - 9) n (λ e. h (sym e))) }
 
 sub-k : tie.Need-sub-k
 sub-k c = search needs
@@ -39,9 +40,10 @@ returns-2 c =
     let v = get-within (a .t2) (8 - a .x) 65536 0 (omega arith) in
     let z : eqb (a .x) 0 ≡ false = ne-eqb (a .x) 0 (λ (e : a .x ≡ 0). let h = c .if2 .taken in omega arith) in
     record {
-      misses = λ t n h.
+      misses = λ t n h u g.
           let k : eqb (getD (a .t2) (8 - a .x) 0) 65536 ≡ false = not-true _ t in
-          rw (z, lt-leb _ _ (c .before .if1 .left), v, k, ne-eqb (getD (a .t2) (8 - a .x) 0) n (λ e. h (sym e)));
+          let o : value-of u (a .x) ≡ value-of (a .t2) (a .x) = g (a .x) (λ e. eqb-false _ _ k (sym v ∙ e)) in
+          rw (z, lt-leb _ _ (c .before .if1 .left), o, v, k, ne-eqb (getD (a .t2) (8 - a .x) 0) n (λ e. h (sym e)));
     }
 
 returns-3 : tie.Need-returns-3
