@@ -11,9 +11,10 @@ fn say(x: u64, after: &[u8]) {
 
 fn tell_plan(words: [u32; 2432]) {
     io::write_all(1, b"  ");
-    say(state::plan_left(&words, 0) as u64, b" ");
-    say(state::plan_flags(&words, 0) as u64, b" ");
-    say(state::plan_subgoal(&words, 0) as u64, b"");
+    let q = state::plan_at(&words, 0);
+    say(q.left as u64, b" ");
+    say(q.flags as u64, b" ");
+    say(q.subgoal as u64, b"");
 }
 
 fn tell(case: u64, r: Reply) {

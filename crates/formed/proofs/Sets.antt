@@ -1,7 +1,7 @@
 -- The number of sets is the set of the last row, since rows stand by their sets.
 use mathlib.Core.Path.{_≡_, sym, ap, _∙_}
 use mathlib.Core.List.{List, map}
-use Prim.Native.Nat.{ℕ, suc, _+_, _*_, _/_, _≤_}
+use Prim.Native.Nat.{ℕ, suc, _+_, _/_, _≤_}
 use native.Mathlib.Omega.{arith}
 use lib.ListN.{length, getD}
 use Rattle.lists.specs.Lists.{Pairs, highest, count-up}
@@ -19,7 +19,7 @@ pub sets-none : (P : List ℕ) → length P / 8 ≡ 0 → sets (rows-of P) ≡ 0
 unfolding sets rows-of highest
 sets-none P e = ap (λ (n : ℕ). highest (map set-of (rows-from P 0 n))) e
 
-pub sets-last : (P : List ℕ) (k : ℕ) → Pairs NotLater (rows-of P) → suc k ≡ length P / 8 → sets (rows-of P) ≡ getD P (k * 8) 0
+pub sets-last : (P : List ℕ) (k : ℕ) → Pairs NotLater (rows-of P) → suc k ≡ length P / 8 → sets (rows-of P) ≡ row-at P k .set
 unfolding sets rows-of
 sets-last P k o e =
     let n = length P / 8 in

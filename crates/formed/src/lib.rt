@@ -116,7 +116,8 @@ pub fn sets_of(program: &[u32]) -> u32
     if rows == 0 {
         return 0;
     }
-    program[(rows - 1) * 8]
+    let last = program::row_at(program, rows - 1);
+    last.set
 }
 
 // "all limits above hold", where exec is the last phase.

@@ -5,17 +5,14 @@ use mathlib.Core.List.{List, [], _∷_}
 use Prim.Native.Nat.{ℕ, zero, suc, _-_, _≤_, _<_}
 use native.Mathlib.Omega.{arith}
 use lib.Dec.{leb, ltb}
-use lib.ListN.{length, getD, take, drop, length-drop, length-map}
-use lib.Seq.{length-take-le}
+use lib.ListN.{length, getD, length-map}
 use borrow.Author.Tests.{ne-eqb, le-leb, lt-ltb, le-ltb}
 use Rattle.lists.specs.Lists.{is-empty, every, rises}
 use Rattle.lists.specs.Tables.{trim-cons, trimmed}
-use Rattle.lists.proofs.Tables.{tabulate-length}
-use Rattle.lists.proofs.Counted.{trimmed-few, trimmed-four}
-use Rattle.table.specs.Rows.{row}
+use Rattle.lists.proofs.Tables.{tabulate-get, tabulate-length}
+use Rattle.lists.proofs.Counted.{trimmed-few}
 use Rattle.model.specs.declared.Atom.{Atom}
-use Rattle.state.specs.View.{atom-at, plan-at, atoms-of, atom-ids-of}
-use Rattle.state.proofs.View.{plan-words-long}
+use Rattle.state.specs.View.{atom-at, atoms-of, atom-ids-of}
 use Rattle.formed_plans.specs.Plans.{may-follow, justified}
 
 middle-swap : (a b c d : Bool) → (a && b) && (c && d) ≡ (a && c) && (b && d)
@@ -73,23 +70,13 @@ module _ (alive : ℕ → Bool) where
       let b : leb (suc (length (trimmed l))) 4 ≡ true = le-leb (suc (length (trimmed l))) 4 (omega arith) in
       rw (a, b, chained-is j l) (left-swap (alive (suc j)) (rises (suc j ∷ trimmed l)) (every alive (trimmed l)))
 
--- the words of a plan
-module _ (words : List ℕ) (k : ℕ) (long : length words ≡ 2432) (few : k < 64) where
-  justification-words : let js = plan-at words k .justifications in trimmed (getD js 0 0 ∷ getD js 1 0 ∷ getD js 2 0 ∷ getD js 3 0 ∷ []) ≡ js
-  unfolding plan-at
-  justification-words =
-      let z = plan-words-long words k long few in
-      let d = length-drop 6 (row 18 (drop 1280 words) k) in
-      trimmed-four (take 4 (drop 6 (row 18 (drop 1280 words) k))) (length-take-le 4 (drop 6 (row 18 (drop 1280 words) k)) (omega arith))
-
-  pub words-justified : (alive : ℕ → Bool) → alive 0 ≡ false →
-      let js = plan-at words k .justifications in
-      alive (getD js 0 0) && (may-follow alive (getD js 0 0) (getD js 1 0) && (may-follow alive (getD js 1 0) (getD js 2 0) && may-follow alive (getD js 2 0) (getD js 3 0))) ≡ justified alive js
-  words-justified alive z =
-      let js = plan-at words k .justifications in
+  -- the four words of a plan's justifications
+  pub words-justified : alive 0 ≡ false → (js : List ℕ) → length js ≡ 4 →
+      alive (getD js 0 0) && (may-follow alive (getD js 0 0) (getD js 1 0) && (may-follow alive (getD js 1 0) (getD js 2 0) && may-follow alive (getD js 2 0) (getD js 3 0))) ≡ justified alive (trimmed js)
+  words-justified z js h =
       ap (λ (b : Bool). alive (getD js 0 0) && (may-follow alive (getD js 0 0) (getD js 1 0) && (may-follow alive (getD js 1 0) (getD js 2 0) && b))) (sym (and-true (may-follow alive (getD js 2 0) (getD js 3 0))))
-      ∙ four-justified alive z (getD js 0 0) (getD js 1 0 ∷ getD js 2 0 ∷ getD js 3 0 ∷ []) (omega arith)
-      ∙ ap (justified alive) justification-words
+      ∙ four-justified z (getD js 0 0) (getD js 1 0 ∷ getD js 2 0 ∷ getD js 3 0 ∷ []) (omega arith)
+      ∙ ap (λ (l : List ℕ). justified alive (trimmed l)) (tabulate-get 4 js 0 h)
 
 -- as many ids as atoms
 pub atom-ids-long : (words : List ℕ) (n : ℕ) → length (atom-ids-of n words) ≡ n

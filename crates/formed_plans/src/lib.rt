@@ -40,15 +40,14 @@ fn justified(words: &[u32], atoms: u32, k: usize) -> bool
     requires { ⌜ AtomsStand (now words) atoms × (k < 64) ⌝ }
     ensures { λ r. ⌜ r ≡ justified (alive-below (atom-ids-of atoms (now (words .entry))) (plan-at (now (words .entry)) k .id)) (plan-at (now (words .entry)) k .justifications) ⌝ }
 {
-    let id = state::plan_id(words, k);
-    let j0 = state::plan_justification(words, k, 0);
-    let j1 = state::plan_justification(words, k, 1);
-    let j2 = state::plan_justification(words, k, 2);
-    let j3 = state::plan_justification(words, k, 3);
-    let first = is_atom(words, atoms, j0) & (j0 < id);
+    let q = state::plan_at(words, k);
+    let id = q.id;
+    let js = q.justifications;
+    let first = is_atom(words, atoms, js[0]) & (js[0] < id);
     first
-        & (may_follow(words, atoms, id, j0, j1)
-            & (may_follow(words, atoms, id, j1, j2) & may_follow(words, atoms, id, j2, j3)))
+        & (may_follow(words, atoms, id, js[0], js[1])
+            & (may_follow(words, atoms, id, js[1], js[2])
+                & may_follow(words, atoms, id, js[2], js[3])))
 }
 
 // Plan k has no subgoal, or one that is alive and was made after it.
@@ -168,14 +167,13 @@ fn plan_formed(program: &[u32], words: &[u32], scalars: Scalars, k: usize) -> bo
     requires { ⌜ AtomsStand (now words) (scalars .atoms) × (k < 64) × Pairs NotLater (rows-of (now program)) ⌝ }
     ensures { λ r. ⌜ r ≡ plan-formed (rows-of (now (program .entry))) (config-of (now (words .entry)) scalars) (plan-at (now (words .entry)) k) ⌝ }
 {
-    let set = state::plan_set(words, k);
-    let rule = state::plan_rule(words, k);
-    let reasons = spans::span_of(program, set, rule, 1);
+    let q = state::plan_at(words, k);
+    let reasons = spans::span_of(program, q.set, q.rule, 1);
     let body = plan_steps::body_of(program, words, k);
     let object = reasons.from < reasons.to;
-    let left = state::plan_left(words, k) as usize <= body.to - body.from;
+    let left = q.left as usize <= body.to - body.from;
     let values = values_fit(words, k) & body_has_values(program, words, k, body);
-    let flags = state::plan_flags(words, k) <= 65535;
+    let flags = q.flags <= 65535;
     object & (left & (values & (flags & subgoal_first(program, words, scalars, k, body))))
 }
 

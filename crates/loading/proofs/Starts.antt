@@ -4,7 +4,8 @@ use mathlib.Core.List.{List, _∷_, _++_}
 use Prim.Native.Nat.{ℕ, zero, suc, _+_, _*_, _/_, _≤_}
 use native.Mathlib.Omega.{arith}
 use native.Mathlib.Nat.{mul-div-left}
-use lib.ListN.{length, drop, List·getD-append}
+use lib.ListN.{length, drop}
+use Rattle.table.proofs.Rows as Table
 use Rattle.model.specs.declared.Row.{Row}
 use Rattle.model.specs.Program.{initial-atoms}
 use Rattle.model.specs.Configuration.{fresh}
@@ -15,7 +16,7 @@ use Rattle.program_laws.specs.Lawful.{Lawful}
 use Rattle.program_laws.proofs.Lawful.{lawful}
 use Rattle.program_laws.proofs.WellFormed.{loads-well-formed}
 use Rattle.program.specs.declared.Loaded.{Loaded}
-use Rattle.program.specs.Rows.{row-at, rows-from, rows-of, words-of}
+use Rattle.program.specs.Rows.{row-of, row-at, rows-from, rows-of, words-of}
 use Rattle.program.specs.Loading as Loading
 use Rattle.program.specs.Loading.{Answer, loading, answer-of}
 use Rattle.program.proofs.Words.{length-words}
@@ -27,16 +28,7 @@ use Rattle.loading.specs.Starting.{started-from, starting, seen}
 -- rows that stand first in the words
 module _ (l m : List ℕ) where
   row-front : (k : ℕ) → k * 8 + 8 ≤ length l → row-at (l ++ m) k ≡ row-at l k
-  row-front k h = rw (
-    List·getD-append l m 0 (k * 8) (omega arith),
-    List·getD-append l m 0 (k * 8 + 1) (omega arith),
-    List·getD-append l m 0 (k * 8 + 2) (omega arith),
-    List·getD-append l m 0 (k * 8 + 3) (omega arith),
-    List·getD-append l m 0 (k * 8 + 4) (omega arith),
-    List·getD-append l m 0 (k * 8 + 5) (omega arith),
-    List·getD-append l m 0 (k * 8 + 6) (omega arith),
-    List·getD-append l m 0 (k * 8 + 7) (omega arith),
-  )
+  row-front k h = ap row-of (Table.row-front 8 l m k h)
 
   rows-front : (n k : ℕ) → (k + n) * 8 ≤ length l → rows-from (l ++ m) k n ≡ rows-from l k n
   rows-front zero k h = refl

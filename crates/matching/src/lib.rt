@@ -261,11 +261,8 @@ fn is_part(program: &[u32], k: usize, set: u32, rule: u32, part: u32) -> bool
     ensures { λ b. ⌜ b ≡ (eqb (row-at (now (program .entry)) k .set) set
         && (eqb (row-at (now (program .entry)) k .rule) rule && eqb (row-at (now (program .entry)) k .part) part)) ⌝ }
 {
-    let at = k * 8;
-    let s = program[at];
-    let n = program[at + 1];
-    let p = program[at + 2];
-    (s == set) & ((n == rule) & (p == part))
+    let r = program::row_at(program, k);
+    (r.set == set) & ((r.rule == rule) & (r.part == part))
 }
 
 // Where a part's rows end that begin at `from`.
@@ -318,7 +315,8 @@ pub fn choose<'a>(program: &'a [u32], words: &'a [u32], s: Scalars, set: u32) ->
     let mut number: u32 = 1;
     let mut start = spans::first_from(program, set, 1, 1);
     'rules: while start < n {
-        if program[start * 8] != set {
+        let r = program::row_at(program, start);
+        if r.set != set {
             break 'rules;
         }
         let context = part_end(program, start, set, number, 1);
@@ -340,7 +338,6 @@ pub fn choose<'a>(program: &'a [u32], words: &'a [u32], s: Scalars, set: u32) ->
             };
             break 'rules;
         }
-        let r = program::row_at(program, start);
         let once = queries::closes(r, values);
         let mut c: usize = 0;
         'candidates: loop {

@@ -1,5 +1,5 @@
 -- What a load leaves to its callers: its number tells whether the text was accepted, and the words hold the rows that it loads to.
-use mathlib.Core.Path.{_≡_, refl, ap₂, _∙_}
+use mathlib.Core.Path.{_≡_, refl, ap, ap₂, _∙_}
 use mathlib.Core.Bool.{Bool, true, false, not, _&&_}
 use mathlib.Core.Logic.{_≢_}
 use mathlib.Core.List.{List, [], _∷_, _++_}
@@ -7,45 +7,36 @@ use mathlib.Core.Option.{Option, none, some}
 use Prim.Native.Nat.{ℕ, zero, suc, _+_, _*_, _%_}
 use native.Mathlib.Omega.{arith}
 use native.Mathlib.Nat.{mul-div-left, mul-mod-left}
-use lib.ListN.{length, getD, take, drop}
-use lib.Seq.{take-at, getD-append-add}
+use lib.ListN.{length, take, drop}
+use lib.Seq.{take-at, drop-append-add}
 use lib.Dec.{eqb}
 use borrow.Author.Tests.{eq-eqb, eqb-false}
 use Rattle.lists.specs.Lists.{if_then_else_, same}
 use Rattle.lists.proofs.Cuts.{if-either}
+use Rattle.table.specs.Rows.{row}
 use Rattle.model.specs.declared.Row.{Row}
 use Rattle.model.specs.declared.Scan.{Scan}
 use Rattle.model.specs.Text.{Lines, end, unended, line, lines, names, read-row}
 use Rattle.model.specs.Load.{Loaded, loaded, refused, load, from-names, load-lines, take-line, take-row, go-on, passed, refused-at, finish, lacking, same-rule, begun, taken, fault, at-first}
 use Rattle.program_laws.proofs.WellFormed.{loads-well-formed}
-use Rattle.program.specs.Rows.{row-at, rows-from, rows-of, row-words, words-of, program-formed}
+use Rattle.program.specs.Rows.{row-of, row-at, rows-from, rows-of, row-words, words-of, program-formed}
 use Rattle.program.specs.Loading.{loading, answer-of}
 use Rattle.program.proofs.Words.{length-words}
 
 -- rows behind a first one, by the words behind its words
 module _ (r : Row) (words : List ℕ) where
-  getD-behind : (n m : ℕ) → n ≡ 8 + m → getD (row-words r ++ words) n 0 ≡ getD words m 0
-  unfolding row-words
-  getD-behind n m e = rw e (getD-append-add (row-words r) words m 0)
-
   row-behind : (k : ℕ) → row-at (row-words r ++ words) (suc k) ≡ row-at words k
-  row-behind k = rw (
-    getD-behind (suc k * 8) (k * 8) (omega arith),
-    getD-behind (suc k * 8 + 1) (k * 8 + 1) (omega arith),
-    getD-behind (suc k * 8 + 2) (k * 8 + 2) (omega arith),
-    getD-behind (suc k * 8 + 3) (k * 8 + 3) (omega arith),
-    getD-behind (suc k * 8 + 4) (k * 8 + 4) (omega arith),
-    getD-behind (suc k * 8 + 5) (k * 8 + 5) (omega arith),
-    getD-behind (suc k * 8 + 6) (k * 8 + 6) (omega arith),
-    getD-behind (suc k * 8 + 7) (k * 8 + 7) (omega arith),
-  )
+  unfolding row row-words
+  row-behind k =
+      let e : suc k * 8 ≡ 8 + k * 8 = omega arith in
+      ap (λ (l : List ℕ). row-of (take 8 l)) (ap (λ (n : ℕ). drop n (row-words r ++ words)) e ∙ drop-append-add (row-words r) words (k * 8))
 
   rows-behind : (n k : ℕ) → rows-from (row-words r ++ words) (suc k) n ≡ rows-from words k n
   rows-behind zero k = refl
   rows-behind (suc n) k = ap₂ {C = List Row} (λ (q : Row) (l : List Row). q ∷ l) (row-behind k) (rows-behind n (suc k))
 
   row-first : row-at (row-words r ++ words) 0 ≡ r
-  unfolding row-words
+  unfolding row row-words
   row-first = refl
 
 rows-back : (rows : List Row) → rows-from (words-of rows) 0 (length rows) ≡ rows

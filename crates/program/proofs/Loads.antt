@@ -7,10 +7,11 @@ use mathlib.Core.Option.{Option, none, some}
 use Prim.Native.Nat.{ℕ, _+_, _-_, _*_, _≤_, _<_}
 use native.Mathlib.Omega.{arith}
 use lib.ListN.{length, drop, take, length-append}
-use lib.Seq.{sets, length-sets}
 use lib.Dec.{eqb}
 use borrow.Author.Tests.{eqb-true, eqb-false, ne-eqb, not-true, not-false}
 use Rattle.lists.specs.Lists.{same, if_then_else_}
+use Rattle.table.specs.Rows.{placed}
+use Rattle.table.proofs.Rows.{placed-long}
 use Rattle.model.specs.declared.Row.{Row}
 use Rattle.model.specs.declared.Scan.{Scan}
 use Rattle.model.specs.Text.{lines, names, read-row}
@@ -26,7 +27,7 @@ use Rattle.rows.proofs.Scans.{small-first, passed-counts}
 use Rattle.program.specs.declared.Loaded.{Loaded}
 use Rattle.program.specs.Rows.{row-words, words-of}
 use Rattle.program.specs.Loading.{answer-of, loading, seen}
-use Rattle.program.proofs.Words.{store-row}
+use Rattle.program.proofs.Words.{eight, store-row}
 
 -- the text is refused with this number and line
 pub record Refuses (text : List ℕ) (n k : ℕ) : Type 0 where
@@ -130,7 +131,7 @@ module _ {text lent words : List ℕ} {s : Scan} {at : ℕ} (w : Loading text le
           pub row-room : v .number ≡ 0 → s .count ≤ 511
           row-room z = passed-counts row (v .scan) (w .small) (passes-on z) .room
 
-          pub row-taken : {new : List ℕ} → v .number ≡ 0 → new ≡ sets words (s .count * 8) (row-words row) → Loading text lent new (v .scan) (end + 1)
+          pub row-taken : {new : List ℕ} → v .number ≡ 0 → new ≡ placed 8 words (s .count) (row-words row) → Loading text lent new (v .scan) (end + 1)
           unfolding go-on
           row-taken {new} z y =
               let p = passed-counts row (v .scan) (w .small) (passes-on z) in
@@ -140,9 +141,9 @@ module _ {text lent words : List ℕ} {s : Scan} {at : ℕ} (w : Loading text le
               record {
                 inside = omega arith;
                 small = p .small;
-                long = ap length y ∙ length-sets words (s .count * 8) (row-words row) ∙ l;
+                long = ap length y ∙ placed-long 8 words (s .count) (row-words row) (eight row) (omega arith) ∙ l;
                 rows = w .rows ++ (row ∷ []);
                 counted = length-append (w .rows) (row ∷ []) ∙ rw (p .count, n);
-                stored = y ∙ rw (← n, w .stored) (store-row lent (w .rows) row (rw (← (w .stored)) (omega arith)));
+                stored = y ∙ rw (← n, w .stored) (store-row lent (w .rows) row);
                 so-far = at-row ∙ rw (passes-on z);
               }

@@ -1,15 +1,16 @@
 -- Rows in words: one row after the other, and the words of rows read back.
 use mathlib.Core.Path.{_≡_, refl, ap, sym, _∙_}
 use mathlib.Core.List.{List, [], _∷_, _++_}
-use Prim.Native.Nat.{ℕ, suc, _+_, _-_, _*_, _/_, _≤_, _<_}
+use Prim.Native.Nat.{ℕ, _+_, _-_, _*_, _/_, _≤_, _<_}
 use native.Mathlib.Omega.{arith}
 use native.Mathlib.Nat.{div-mul-le-self}
-use lib.ListN.{length, set, take, drop, length-map, length-append}
-use lib.Seq.{sets, sets-eq, take-at, drop-at, drop-drop}
+use lib.ListN.{length, take, drop, length-map, length-append}
+use lib.Seq.{take-at, take-all, drop-at, drop-drop}
 use Rattle.lists.specs.Lists.{count-up}
 use Rattle.lists.proofs.Cuts.{count-up-next, count-up-none}
 use Rattle.lists.proofs.Bind.{bind-append}
 use Rattle.lists.proofs.Tests.{length-count-up}
+use Rattle.table.specs.Rows.{placed}
 use Rattle.model.specs.declared.Row.{Row}
 use Rattle.program.specs.Rows.{row-at, rows-from, rows-of, row-words, words-of}
 
@@ -38,22 +39,7 @@ pub words-snoc : (rows : List Row) (r : Row) → words-of (rows ++ (r ∷ [])) �
 unfolding words-of row-words
 words-snoc rows r = bind-append row-words rows (r ∷ [])
 
--- eight stores are the words of a row in a run
-pub stores : (l : List ℕ) (k : ℕ) (r : Row) →
-    set (set (set (set (set (set (set (set l k (r .set)) (k + 1) (r .rule)) (k + 2) (r .part)) (k + 3) (r .op)) (k + 4) (r .i)) (k + 5) (r .p)) (k + 6) (r .a)) (k + 7) (r .b)
-    ≡ sets l k (row-words r)
-unfolding row-words
-stores l k r =
-    let e₁ : suc k ≡ k + 1 = omega arith in
-    let e₂ : suc (k + 1) ≡ k + 2 = omega arith in
-    let e₃ : suc (k + 2) ≡ k + 3 = omega arith in
-    let e₄ : suc (k + 3) ≡ k + 4 = omega arith in
-    let e₅ : suc (k + 4) ≡ k + 5 = omega arith in
-    let e₆ : suc (k + 5) ≡ k + 6 = omega arith in
-    let e₇ : suc (k + 6) ≡ k + 7 = omega arith in
-    rw (e₁, e₂, e₃, e₄, e₅, e₆, e₇)
-
-eight : (r : Row) → length (row-words r) ≡ 8
+pub eight : (r : Row) → length (row-words r) ≡ 8
 unfolding row-words
 eight r = refl
 
@@ -62,15 +48,13 @@ module _ (lent : List ℕ) (rows : List Row) where
   abbrev with-rows : List ℕ
   with-rows = words-of rows ++ drop (length rows * 8) lent
 
-  pub store-row : (r : Row) → length rows * 8 + 8 ≤ length with-rows →
-      sets with-rows (length rows * 8) (row-words r) ≡ words-of (rows ++ (r ∷ [])) ++ drop (length (rows ++ (r ∷ [])) * 8) lent
-  store-row r h =
+  pub store-row : (r : Row) → placed 8 with-rows (length rows) (row-words r) ≡ words-of (rows ++ (r ∷ [])) ++ drop (length (rows ++ (r ∷ [])) * 8) lent
+  unfolding placed
+  store-row r =
       let n = length-words rows in
-      let one = eight r in
+      let all : take 8 (row-words r) ≡ row-words r = take-all 8 (row-words r) (rw (eight r) (omega arith)) in
       let front : take (length rows * 8) with-rows ≡ words-of rows = take-at (words-of rows) (drop (length rows * 8) lent) (length rows * 8) n in
       let back : drop (length rows * 8) with-rows ≡ drop (length rows * 8) lent = drop-at (words-of rows) (drop (length rows * 8) lent) (length rows * 8) n in
-      let rest : drop (length rows * 8 + length (row-words r)) with-rows ≡ drop (length rows * 8 + length (row-words r)) lent
-      = sym (drop-drop (length (row-words r)) (length rows * 8) with-rows) ∙ ap (drop (length (row-words r))) back ∙ drop-drop (length (row-words r)) (length rows * 8) lent in
-      let next : length (rows ++ (r ∷ [])) * 8 ≡ length rows * 8 + length (row-words r) = rw (length-append, one) (omega arith) in
-      sets-eq (row-words r) with-rows (length rows * 8) (rw one h)
-      ∙ rw (front, rest, words-snoc rows r, next)
+      let rest : drop (length rows * 8 + 8) with-rows ≡ drop (length rows * 8 + 8) lent = sym (drop-drop 8 (length rows * 8) with-rows) ∙ ap (drop 8) back ∙ drop-drop 8 (length rows * 8) lent in
+      let next : length (rows ++ (r ∷ [])) * 8 ≡ length rows * 8 + 8 = rw length-append (omega arith) in
+      rw (front, all, rest, words-snoc rows r, next)

@@ -5,21 +5,17 @@ use mathlib.Core.List.{List, [], _∷_, map}
 use lib.Dec.{eqb}
 use lib.ListN.{length, getD}
 use Rattle.lists.specs.Lists.{bind, count-up}
+use Rattle.table.specs.Rows.{row}
 use Rattle.model.specs.declared.Row.{Row}
 use Rattle.model.specs.Render.{well-formed}
 
+-- a row's eight words
+abbrev pub row-of : List ℕ → Row
+row-of r = record { set = getD r 0 0; rule = getD r 1 0; part = getD r 2 0; op = getD r 3 0; i = getD r 4 0; p = getD r 5 0; a = getD r 6 0; b = getD r 7 0 }
+
 -- row k of the words
 abbrev pub row-at : List ℕ → ℕ → Row
-row-at words k = record {
-  set = getD words (k * 8) 0;
-  rule = getD words (k * 8 + 1) 0;
-  part = getD words (k * 8 + 2) 0;
-  op = getD words (k * 8 + 3) 0;
-  i = getD words (k * 8 + 4) 0;
-  p = getD words (k * 8 + 5) 0;
-  a = getD words (k * 8 + 6) 0;
-  b = getD words (k * 8 + 7) 0;
-}
+row-at words k = row-of (row 8 words k)
 
 -- the rows from k on, n of them
 abbrev pub rows-from : List ℕ → ℕ → ℕ → List Row

@@ -4,7 +4,7 @@ use text::Line;
 ghost use mathlib.Core.Path.{_≡_};
 ghost use Prim.Native.Nat.{_+_, _*_, _≤_};
 ghost use lib.ListN.{length};
-ghost use lib.Seq.{sets};
+ghost use Rattle.table.specs.Rows.{placed};
 ghost use Rattle.program.specs.Rows.{row-at, row-words, program-formed};
 ghost use Rattle.program.specs.Loading.{seen, loading};
 
@@ -13,16 +13,15 @@ pub fn row_at(words: &[u32], k: usize) -> Row
     requires { ⌜ k * 8 + 8 ≤ length (now words) ⌝ }
     ensures { λ r. ⌜ r ≡ row-at (now (words .entry)) k ⌝ }
 {
-    let at = k * 8;
     Row {
-        set: words[at],
-        rule: words[at + 1],
-        part: words[at + 2],
-        op: words[at + 3],
-        i: words[at + 4],
-        p: words[at + 5],
-        a: words[at + 6],
-        b: words[at + 7],
+        set: table::read(words, 8, k, 0),
+        rule: table::read(words, 8, k, 1),
+        part: table::read(words, 8, k, 2),
+        op: table::read(words, 8, k, 3),
+        i: table::read(words, 8, k, 4),
+        p: table::read(words, 8, k, 5),
+        a: table::read(words, 8, k, 6),
+        b: table::read(words, 8, k, 7),
     }
 }
 
@@ -79,17 +78,10 @@ fn copied(words: &[u32; 4096]) -> [u32; 4096]
 // Row k becomes r.
 fn put_row(words: &mut [u32; 4096], k: usize, r: Row)
     requires { ⌜ k * 8 + 8 ≤ 4096 ⌝ }
-    ensures { λ _. ⌜ now (words .exit) ≡ sets (now (words .entry)) (k * 8) (row-words r) ⌝ }
+    ensures { λ _. ⌜ now (words .exit) ≡ placed 8 (now (words .entry)) k (row-words r) ⌝ }
 {
-    let at = k * 8;
-    words[at] = r.set;
-    words[at + 1] = r.rule;
-    words[at + 2] = r.part;
-    words[at + 3] = r.op;
-    words[at + 4] = r.i;
-    words[at + 5] = r.p;
-    words[at + 6] = r.a;
-    words[at + 7] = r.b;
+    let numbers = [r.set, r.rule, r.part, r.op, r.i, r.p, r.a, r.b];
+    table::write(words, 8, k, &numbers);
 }
 
 // "Load tests lines in order": the program of a text, or the first refusal.

@@ -1,17 +1,15 @@
 -- The first ceiling that applies, row by row.
 use mathlib.Core.Path.{_≡_, ap, _∙_}
 use mathlib.Core.Bool.{Bool, true, false}
-use mathlib.Core.List.{List, _∷_}
-use Prim.Native.Nat.{ℕ, suc, _+_, _-_, _*_, _/_, _<_, _≤_}
+use mathlib.Core.List.{List}
+use Prim.Native.Nat.{ℕ, _+_, _-_, _/_, _<_, _≤_}
 use native.Mathlib.Omega.{arith}
-use lib.ListN.{length, getD}
+use lib.ListN.{length}
 use Rattle.lists.specs.Lists.{put, keep}
 use Rattle.model.specs.declared.Row.{Row}
 use Rattle.model.specs.Calls.{Reading, applies, replaced, taken-as}
 use Rattle.program.specs.Rows.{row-at, rows-of, rows-from}
-
-pub rows-step : (words : List ℕ) (k n : ℕ) → k < n → rows-from words k (n - k) ≡ row-at words k ∷ rows-from words (k + 1) (n - (k + 1))
-rows-step words k n h = let e : n - k ≡ suc (n - (k + 1)) = omega arith in let f : k + 1 ≡ suc k = omega arith in rw (e, f)
+use Rattle.program.proofs.Words.{rows-next}
 
 -- what is left to look at
 unfoldable pub left-of : List ℕ → Reading → ℕ → ℕ → ℕ
@@ -24,11 +22,11 @@ module _ (words : List ℕ) (r : Reading) where
 
   pub left-skip : (k n : ℕ) → k < n → applies r (row-at words k) ≡ false → left-of words r k n ≡ left-of words r (k + 1) n
   unfolding left-of
-  left-skip k n h e = ap (λ (l : List Row). replaced (r .p) (keep (applies r) l)) (rows-step words k n h) ∙ ap (λ (b : Bool). replaced (r .p) (put b (row-at words k) (keep (applies r) (rows-from words (k + 1) (n - (k + 1)))))) e
+  left-skip k n h e = ap (λ (l : List Row). replaced (r .p) (keep (applies r) l)) (rows-next words k n h) ∙ ap (λ (b : Bool). replaced (r .p) (put b (row-at words k) (keep (applies r) (rows-from words (k + 1) (n - (k + 1)))))) e
 
-  pub left-hit : (k n : ℕ) → k < n → applies r (row-at words k) ≡ true → left-of words r k n ≡ getD words (k * 8 + 7) 0 - 9
+  pub left-hit : (k n : ℕ) → k < n → applies r (row-at words k) ≡ true → left-of words r k n ≡ row-at words k .b - 9
   unfolding left-of replaced
-  left-hit k n h e = ap (λ (l : List Row). replaced (r .p) (keep (applies r) l)) (rows-step words k n h) ∙ ap (λ (b : Bool). replaced (r .p) (put b (row-at words k) (keep (applies r) (rows-from words (k + 1) (n - (k + 1)))))) e
+  left-hit k n h e = ap (λ (l : List Row). replaced (r .p) (keep (applies r) l)) (rows-next words k n h) ∙ ap (λ (b : Bool). replaced (r .p) (put b (row-at words k) (keep (applies r) (rows-from words (k + 1) (n - (k + 1)))))) e
 
   pub left-none : (k n : ℕ) → n ≤ k → left-of words r k n ≡ r .p
   unfolding left-of replaced

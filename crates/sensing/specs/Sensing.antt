@@ -1,9 +1,10 @@
 -- What the work of sense leaves, whatever the log holds already.
 use mathlib.Core.Path.{_≡_}
 use mathlib.Core.List.{List, map}
-use Prim.Native.Nat.{ℕ, _+_, _*_, _≤_}
+use Prim.Native.Nat.{ℕ, _+_, _≤_}
 use lib.ListN.{getD}
 use Rattle.lists.specs.Lists.{count-up}
+use Rattle.table.specs.Rows.{row}
 use Rattle.model.specs.declared.Row.{Row}
 use Rattle.model.specs.Configuration.{Config, last-next}
 use Rattle.model.specs.Log.{Log, Outcome, refused, accepted}
@@ -17,7 +18,7 @@ reading-of r = record { sign = r .sign; p = r .p; a = r .a; b = r .b }
 
 -- rows of four words
 abbrev pub reading-at : List ℕ → ℕ → Reading
-reading-at words k = record { sign = getD words (k * 4) 0; p = getD words (k * 4 + 1) 0; a = getD words (k * 4 + 2) 0; b = getD words (k * 4 + 3) 0 }
+reading-at words k = let r = row 4 words k in record { sign = getD r 0 0; p = getD r 1 0; a = getD r 2 0; b = getD r 3 0 }
 
 abbrev pub readings-from : List ℕ → ℕ → ℕ → List Reading
 readings-from words k n = map (reading-at words) (count-up k n)

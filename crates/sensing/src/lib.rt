@@ -1,12 +1,13 @@
 // The work of sense, in place: readings added and withdrawn, row by row.
 use deletion::Removal;
+use model::Row;
 use state::Scalars;
 ghost use mathlib.Core.Path.{_≡_};
 ghost use mathlib.Core.Bool.{true};
 ghost use Prim.Native.Nat.{_+_, _-_, _*_, _/_, _<_, _≤_};
 ghost use lib.ListN.{length};
 ghost use Rattle.lists.specs.Lists.{every};
-ghost use Rattle.program.specs.Rows.{row-at, rows-of};
+ghost use Rattle.program.specs.Rows.{rows-of};
 ghost use Rattle.state.specs.View.{atom-at, config-of};
 ghost use Rattle.model.specs.Calls.{in-range as is-in-range, applies as does-apply, taken-as};
 ghost use Rattle.sensing.specs.Sensing.{reading-of, reading-at, readings-from, Ready, Withdraws, SensesRow, SensesRows};
@@ -26,17 +27,12 @@ pub struct Work {
     pub number: u32,
 }
 
-// The ceiling in row k applies to the reading.
-fn applies(program: &[u32], k: usize, reading: Reading) -> bool
-    requires { ⌜ k * 8 + 8 ≤ length (now program) ⌝ }
-    ensures { λ r. ⌜ r ≡ does-apply (reading-of reading) (row-at (now (program .entry)) k) ⌝ }
+// The row is a ceiling that applies to the reading.
+fn applies(r: Row, reading: Reading) -> bool
+    ensures { λ b. ⌜ b ≡ does-apply (reading-of reading) r ⌝ }
 {
-    let at = k * 8;
-    let set = program[at];
-    let op = program[at + 3];
-    let p = program[at + 5];
-    let a = model::constant(program[at + 6]);
-    (set == 0) & ((op == 40) & ((p == reading.p) & (a <= reading.b)))
+    let a = model::constant(r.a);
+    (r.set == 0) & ((r.op == 40) & ((r.p == reading.p) & (a <= reading.b)))
 }
 
 // "a sensed p whose second argument is at least a (1 to 65,535) is taken as predicate b (1 to 255), once"
@@ -46,8 +42,9 @@ pub fn taken_as(program: &[u32], reading: Reading) -> u32
     let n = program.len() / 8;
     let mut k: usize = 0;
     while k < n {
-        if applies(program, k, reading) {
-            return model::constant(program[k * 8 + 7]);
+        let r = program::row_at(program, k);
+        if applies(r, reading) {
+            return model::constant(r.b);
         }
         k += 1;
     }
@@ -114,12 +111,11 @@ fn reading_at(rows: &[u32], k: usize) -> Reading
     requires { ⌜ k * 4 + 4 ≤ length (now rows) ⌝ }
     ensures { λ r. ⌜ reading-of r ≡ reading-at (now (rows .entry)) k ⌝ }
 {
-    let at = k * 4;
     Reading {
-        sign: rows[at],
-        p: rows[at + 1],
-        a: rows[at + 2],
-        b: rows[at + 3],
+        sign: table::read(rows, 4, k, 0),
+        p: table::read(rows, 4, k, 1),
+        a: table::read(rows, 4, k, 2),
+        b: table::read(rows, 4, k, 3),
     }
 }
 

@@ -19,11 +19,8 @@ fn is_before(program: &[u32], k: usize, set: u32, rule: u32, part: u32) -> bool
     requires { ⌜ k * 8 + 8 ≤ length (now program) ⌝ }
     ensures { λ r. ⌜ r ≡ before set rule part (row-at (now (program .entry)) k) ⌝ }
 {
-    let at = k * 8;
-    let s = program[at];
-    let r = program[at + 1];
-    let p = program[at + 2];
-    (s < set) | ((s == set) & ((r < rule) | ((r == rule) & (p < part))))
+    let r = program::row_at(program, k);
+    (r.set < set) | ((r.set == set) & ((r.rule < rule) | ((r.rule == rule) & (r.part < part))))
 }
 
 // The first row that does not stand before the part, or how many rows there are.

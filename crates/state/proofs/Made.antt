@@ -13,7 +13,8 @@ use Rattle.table.proofs.Parts.{part, with-part, part-before, rest-is, rest-same
 use Rattle.model.specs.declared.Atom.{Atom}
 use Rattle.model.specs.Configuration.{Plan, Config, add-atom, add-plan, new-plan}
 use Rattle.state.specs.declared.Scalars.{Scalars}
-use Rattle.state.specs.View.{atom-of, plan-of, atom-at, plan-at, atoms-of, plans-of, config-of, atom-counted, plan-counted, plan-numbers}
+use Rattle.state.specs.declared.Plan as Declared
+use Rattle.state.specs.View.{atom-of, plan-of, atom-at, plan-at, atoms-of, plans-of, config-of, atom-counted, plan-counted, plan-by-value, plan-words}
 
 -- configurations with the same scalars
 pub config-path : (s : Scalars) (n : ℕ) {xs ys : List Atom} {ps qs : List Plan} {m : ℕ} → xs ≡ ys → ps ≡ qs → n ≡ m →
@@ -44,20 +45,24 @@ atom-appended W s p a b long h =
     (plans-stand W X (s .plans) (placed-behind 5 W (s .atoms) new refl fits 1280 (omega arith)))
     (add-one (s .next))
 
-plan-of-numbers : (id s n left : ℕ) (js vs : List ℕ) → length js ≡ 4 → length vs ≡ 8 →
-    plan-of (plan-numbers id s n left js vs) ≡ record { id = id; set = s; rule = n; values = vs; left = left; justifications = trimmed js; subgoal = 0; flags = 0 }
-plan-of-numbers id s n left js vs hj hv =
-    let e = tabulate-get 4 js 0 hj in
-    let f = tabulate-get 8 vs 0 hv in
-    λ i. record { id = id; set = s; rule = n; values = f i; left = left; justifications = trimmed (e i); subgoal = 0; flags = 0 }
+-- the words of a plan hold it
+plan-of-words : (q : Declared.Plan) → length (q .justifications) ≡ 4 → length (q .values) ≡ 8 → plan-of (plan-words q) ≡ plan-by-value q
+plan-of-words q hj hv =
+    let e = tabulate-get 4 (q .justifications) 0 hj in
+    let f = tabulate-get 8 (q .values) 0 hv in
+    λ i. record { id = q .id; set = q .set; rule = q .rule; values = f i; left = q .left; justifications = trimmed (e i); subgoal = q .subgoal; flags = q .flags }
+
+-- a plan that is made
+abbrev pub plan-made : Scalars → ℕ → ℕ → ℕ → List ℕ → List ℕ → Declared.Plan
+plan-made s t n left js vs = record { id = s .next; set = t; rule = n; left = left; flags = 0; subgoal = 0; justifications = js; values = vs }
 
 -- a call was lent the words behind 1280 and left ys there
 pub plan-appended : (W : List ℕ) (s : Scalars) (t n left : ℕ) (js vs ys : List ℕ) → length W ≡ 2432 → s .atoms ≤ 256 → s .plans < 64 → length js ≡ 4 → length vs ≡ 8 →
-    ys ≡ placed 18 (part 1280 (length W - 1280) W) (s .plans) (plan-numbers (s .next) t n left js vs) →
+    ys ≡ placed 18 (part 1280 (length W - 1280) W) (s .plans) (plan-words (plan-made s t n left js vs)) →
     config-of (with-part 1280 (length W - 1280) W ys) (plan-counted s) ≡ add-plan t n vs left (trimmed js) (config-of W s)
 unfolding plan-at
 plan-appended W s t n left js vs ys long ha hp hj hv e =
-    let new : List ℕ = plan-numbers (s .next) t n left js vs in
+    let new : List ℕ = plan-words (plan-made s t n left js vs) in
     let P : List ℕ = drop 1280 W in
     let X : List ℕ = with-part 1280 (length W - 1280) W ys in
     let z : length P ≡ length W - 1280 = length-drop 1280 W in
@@ -69,5 +74,5 @@ plan-appended W s t n left js vs ys long ha hp hj hv e =
     (atoms-stand W ys (s .atoms) ha long ly)
     (tabulate-append (s .plans) (plan-at W) (plan-at X) (new-plan (config-of W s) t n vs left (trimmed js))
     (λ k q. ap plan-of (ap (λ (l : List ℕ). row 18 l k) same ∙ placed-before 18 P (s .plans) new refl fits k q))
-    (ap plan-of (ap (λ (l : List ℕ). row 18 l (s .plans)) same ∙ placed-same 18 P (s .plans) new refl fits) ∙ plan-of-numbers (s .next) t n left js vs hj hv))
+    (ap plan-of (ap (λ (l : List ℕ). row 18 l (s .plans)) same ∙ placed-same 18 P (s .plans) new refl fits) ∙ plan-of-words (plan-made s t n left js vs) hj hv))
     (add-one (s .next))

@@ -6,23 +6,17 @@ use native.Mathlib.Omega.{arith}
 use lib.ListN.{length, take, drop, getD, length-drop, take-append-drop}
 use lib.Seq.{getD-drop, getD-take, length-take-le, take-all}
 use Rattle.lists.specs.Lists.{Pairs}
+use Rattle.lists.specs.Tables.{tabulate, trimmed}
 use Rattle.lists.proofs.Lists.{pairs-map}
-use Rattle.lists.proofs.Tables.{get-within, tabulate-map, trimmed-at, trimmed-same}
+use Rattle.lists.proofs.Tables.{get-within, tabulate-get, tabulate-map, trimmed-at, trimmed-same}
+use Rattle.lists.proofs.Counted.{trimmed-four}
 use Rattle.table.specs.Rows.{row, key, keys}
-use Rattle.table.proofs.Rows.{row-at, row-long, key-row}
+use Rattle.table.proofs.Rows.{row-long}
 use Rattle.model.specs.declared.Atom.{Atom}
 use Rattle.model.specs.Configuration.{Plan, no-value}
 use Rattle.state.specs.View.{plan-of, atom-at, plan-at, atoms-of, plans-of, atom-ids-of, plan-ids-of, AtomsRise, PlansRise, plan-word}
 
-pub atom-by-words : (l : List ℕ) (k : ℕ) →
-    _≡_ {A = Atom} (record { id = getD l (k * 5) 0; p = getD l (k * 5 + 1) 0; a = getD l (k * 5 + 2) 0; b = getD l (k * 5 + 3) 0; cycle = getD l (k * 5 + 4) 0 }) (atom-at l k)
-unfolding atom-at
-atom-by-words l k = cc (key-row 5 l k (omega arith), row-at 5 l k 1 (omega arith), row-at 5 l k 2 (omega arith), row-at 5 l k 3 (omega arith), row-at 5 l k 4 (omega arith))
-
 -- the columns of a plan
-pub plan-word-is : (l : List ℕ) (k column : ℕ) → column < 18 → getD l (1280 + (k * 18 + column)) 0 ≡ plan-word l k column
-plan-word-is l k column h = sym (row-at 18 (drop 1280 l) k column h ∙ getD-drop 1280 l (k * 18 + column) 0)
-
 module _ (l : List ℕ) (k : ℕ) where
   pub plan-id-is : plan-word l k 0 ≡ plan-at l k .id
   unfolding plan-at
@@ -64,6 +58,17 @@ module _ (l : List ℕ) (k : ℕ) where
         let z = plan-words-long in
         let d = length-drop 10 (row 18 (drop 1280 l) k) in
         length-take-le 8 (drop 10 (row 18 (drop 1280 l) k)) (omega arith)
+
+    -- the four words of its justifications, and the eight of its values
+    pub justification-words : let js = plan-at l k .justifications in trimmed (getD js 0 0 ∷ getD js 1 0 ∷ getD js 2 0 ∷ getD js 3 0 ∷ []) ≡ js
+    unfolding plan-at
+    justification-words =
+        let z = plan-words-long in
+        let d = length-drop 6 (row 18 (drop 1280 l) k) in
+        trimmed-four (take 4 (drop 6 (row 18 (drop 1280 l) k))) (length-take-le 4 (drop 6 (row 18 (drop 1280 l) k)) (omega arith))
+
+    pub value-words : tabulate 8 (λ (i : ℕ). getD (plan-at l k .values) i no-value) ≡ plan-at l k .values
+    value-words = tabulate-get 8 (plan-at l k .values) no-value values-long
 
     pub plan-value-is : (i : ℕ) → i < 8 → plan-word l k (10 + i) ≡ getD (plan-at l k .values) i no-value
     unfolding plan-at

@@ -12,6 +12,7 @@ use Rattle.model.specs.Configuration.{Plan, Config, most-atoms, most-plans, las
 use Rattle.model.specs.Graph.{Sound}
 use Rattle.model.specs.Deletion.{graph}
 use Rattle.state.specs.declared.Scalars.{Scalars}
+use Rattle.state.specs.declared.Plan as Declared
 
 -- an atom's five words: id p a b cycle
 abbrev pub atom-of : List ℕ → Atom
@@ -28,6 +29,19 @@ plan-of r = record {
   justifications = trimmed (take 4 (drop 6 r));
   subgoal = getD r 5 0;
   flags = getD r 4 0;
+}
+
+-- a plan by value, with zeros behind its justifications
+abbrev pub plan-by-value : Declared.Plan → Plan
+plan-by-value q = record {
+  id = q .id;
+  set = q .set;
+  rule = q .rule;
+  values = q .values;
+  left = q .left;
+  justifications = trimmed (q .justifications);
+  subgoal = q .subgoal;
+  flags = q .flags;
 }
 
 -- atoms stand from word 0 on, plans from word 1280 on
@@ -111,9 +125,12 @@ plan-word words k column = getD (row 18 (drop 1280 words) k) column 0
 unfoldable pub with-plan-word : List ℕ → ℕ → ℕ → ℕ → List ℕ
 with-plan-word words k column v = set words (1280 + (k * 18 + column)) v
 
--- the words of a plan with no subgoal and no flags
-abbrev pub plan-numbers : ℕ → ℕ → ℕ → ℕ → List ℕ → List ℕ → List ℕ
-plan-numbers id s n left js vs = id ∷ s ∷ n ∷ left ∷ 0 ∷ 0 ∷ getD js 0 0 ∷ getD js 1 0 ∷ getD js 2 0 ∷ getD js 3 0 ∷
+-- the words of a plan by value
+abbrev pub plan-words : Declared.Plan → List ℕ
+plan-words q =
+    let js = q .justifications in
+    let vs = q .values in
+    q .id ∷ q .set ∷ q .rule ∷ q .left ∷ q .flags ∷ q .subgoal ∷ getD js 0 0 ∷ getD js 1 0 ∷ getD js 2 0 ∷ getD js 3 0 ∷
     getD vs 0 0 ∷ getD vs 1 0 ∷ getD vs 2 0 ∷ getD vs 3 0 ∷ getD vs 4 0 ∷ getD vs 5 0 ∷ getD vs 6 0 ∷ getD vs 7 0 ∷ []
 
 -- "8 before 9 or 10": the refusal that one more atom, one more plan meets, or 0

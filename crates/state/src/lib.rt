@@ -5,7 +5,7 @@ ghost use Prim.Native.Nat.{_+_, _-_, _*_, _<_, _≤_};
 ghost use lib.ListN.{length, getD};
 ghost use Rattle.lists.specs.Tables.{index-of, trimmed};
 ghost use Rattle.model.specs.Configuration.{empty, no-value, with-flag, without-flag, has-flag, equal-to, with-flags, step-removed, change-plan, add-atom, add-plan, add-subgoal};
-ghost use Rattle.state.specs.View.{atom-at, plan-at, config-of, atom-ids-of, plan-ids-of, AtomsRise, PlansRise, LivePlan, atom-counted, plan-counted, phase-put, cycle-put, waiting-put, counts-put, plan-word, with-plan-word, plan-numbers, atom-bar, plan-bar};
+ghost use Rattle.state.specs.View.{atom-at, plan-at, config-of, atom-ids-of, plan-ids-of, AtomsRise, PlansRise, LivePlan, atom-counted, plan-counted, phase-put, cycle-put, waiting-put, counts-put, plan-by-value, plan-word, with-plan-word, plan-words, atom-bar, plan-bar};
 
 // The value of a variable that has none.
 pub const NO_VALUE: u32 = 65536;
@@ -24,6 +24,18 @@ pub struct Scalars {
 pub struct Config {
     pub words: [u32; 2432],
     pub scalars: Scalars,
+}
+
+// A plan by value: its justifications rise, with zeros behind.
+pub struct Plan {
+    pub id: u32,
+    pub set: u32,
+    pub rule: u32,
+    pub left: u32,
+    pub flags: u32,
+    pub subgoal: u32,
+    pub justifications: [u32; 4],
+    pub values: [u32; 8],
 }
 
 impl Config {
@@ -164,13 +176,12 @@ pub fn atom_at(words: &[u32], k: usize) -> Atom
     requires { ⌜ (length (now words) ≡ 2432) × (k < 256) ⌝ }
     ensures { λ r. ⌜ r ≡ atom-at (now (words .entry)) k ⌝ }
 {
-    let i = k * 5;
     Atom {
-        id: words[i],
-        p: words[i + 1],
-        a: words[i + 2],
-        b: words[i + 3],
-        cycle: words[i + 4],
+        id: table::read(words, 5, k, 0),
+        p: table::read(words, 5, k, 1),
+        a: table::read(words, 5, k, 2),
+        b: table::read(words, 5, k, 3),
+        cycle: table::read(words, 5, k, 4),
     }
 }
 
@@ -184,11 +195,11 @@ pub fn is_equal(words: &[u32], k: usize, p: u32, a: u32, b: u32) -> bool
 }
 
 // A word of plan k.
-pub fn plan_word(words: &[u32], k: usize, column: usize) -> u32
+fn plan_word(words: &[u32], k: usize, column: usize) -> u32
     requires { ⌜ (length (now words) ≡ 2432) × (k < 64) × (column < 18) ⌝ }
     ensures { λ r. ⌜ r ≡ plan-word (now (words .entry)) k column ⌝ }
 {
-    words[1280 + (k * 18 + column)]
+    table::read(&words[1280..], 18, k, column)
 }
 
 // What stands in plan k, column by column.
@@ -248,6 +259,51 @@ pub fn plan_value(words: &[u32], k: usize, i: usize) -> u32
     ensures { λ r. ⌜ r ≡ getD (plan-at (now (words .entry)) k .values) i no-value ⌝ }
 {
     plan_word(words, k, 10 + i)
+}
+
+fn plan_justifications(words: &[u32], k: usize) -> [u32; 4]
+    requires { ⌜ (length (now words) ≡ 2432) × (k < 64) ⌝ }
+    ensures { λ r. ⌜ trimmed r ≡ plan-at (now (words .entry)) k .justifications ⌝ }
+{
+    [
+        plan_justification(words, k, 0),
+        plan_justification(words, k, 1),
+        plan_justification(words, k, 2),
+        plan_justification(words, k, 3),
+    ]
+}
+
+fn plan_values(words: &[u32], k: usize) -> [u32; 8]
+    requires { ⌜ (length (now words) ≡ 2432) × (k < 64) ⌝ }
+    ensures { λ r. ⌜ r ≡ plan-at (now (words .entry)) k .values ⌝ }
+{
+    [
+        plan_value(words, k, 0),
+        plan_value(words, k, 1),
+        plan_value(words, k, 2),
+        plan_value(words, k, 3),
+        plan_value(words, k, 4),
+        plan_value(words, k, 5),
+        plan_value(words, k, 6),
+        plan_value(words, k, 7),
+    ]
+}
+
+// Plan k, whole.
+pub fn plan_at(words: &[u32], k: usize) -> Plan
+    requires { ⌜ (length (now words) ≡ 2432) × (k < 64) ⌝ }
+    ensures { λ r. ⌜ plan-by-value r ≡ plan-at (now (words .entry)) k ⌝ }
+{
+    Plan {
+        id: plan_id(words, k),
+        set: plan_set(words, k),
+        rule: plan_rule(words, k),
+        left: plan_left(words, k),
+        flags: plan_flags(words, k),
+        subgoal: plan_subgoal(words, k),
+        justifications: plan_justifications(words, k),
+        values: plan_values(words, k),
+    }
 }
 
 // Where the atom, the plan with this id stands; the count if there is none.
@@ -311,40 +367,35 @@ pub fn append_atom(words: &mut [u32], scalars: Scalars, p: u32, a: u32, b: u32) 
     scalars.atom_made()
 }
 
-// The eighteen words of a plan with no subgoal and no flags.
-fn plan_numbers(
-    id: u32,
-    set: u32,
-    rule: u32,
-    left: u32,
-    justifications: [u32; 4],
-    values: [u32; 8],
-) -> [u32; 18]
-    ensures { λ r. ⌜ r ≡ plan-numbers id set rule left justifications values ⌝ }
+// The eighteen words of a plan.
+fn plan_words(q: Plan) -> [u32; 18]
+    ensures { λ r. ⌜ r ≡ plan-words q ⌝ }
 {
+    let js = q.justifications;
+    let vs = q.values;
     [
-        id,
-        set,
-        rule,
-        left,
-        0,
-        0,
-        justifications[0],
-        justifications[1],
-        justifications[2],
-        justifications[3],
-        values[0],
-        values[1],
-        values[2],
-        values[3],
-        values[4],
-        values[5],
-        values[6],
-        values[7],
+        q.id,
+        q.set,
+        q.rule,
+        q.left,
+        q.flags,
+        q.subgoal,
+        js[0],
+        js[1],
+        js[2],
+        js[3],
+        vs[0],
+        vs[1],
+        vs[2],
+        vs[3],
+        vs[4],
+        vs[5],
+        vs[6],
+        vs[7],
     ]
 }
 
-// A plan is made, its justifications rising with zeros behind. There is room for it.
+// A plan is made: it has the next id, no flags and no subgoal. Its justifications rise, with zeros behind. There is room for it.
 pub fn append_plan(
     words: &mut [u32],
     scalars: Scalars,
@@ -359,7 +410,17 @@ pub fn append_plan(
     ensures made { λ r. ⌜ config-of (now (words .exit)) r ≡ add-plan set rule values left (trimmed justifications) (config-of (now (words .entry)) scalars) ⌝ }
 {
     let n = scalars.plans as usize;
-    let numbers = plan_numbers(scalars.next, set, rule, left, justifications, values);
+    let q = Plan {
+        id: scalars.next,
+        set,
+        rule,
+        left,
+        flags: 0,
+        subgoal: 0,
+        justifications,
+        values,
+    };
+    let numbers = plan_words(q);
     table::write(&mut words[1280..], 18, n, &numbers);
     scalars.plan_made()
 }

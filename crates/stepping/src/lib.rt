@@ -38,6 +38,11 @@ pub struct Progress {
     pub did: Did,
 }
 
+// "3 stepped, 4 failed"
+const STEPPED: u32 = 3;
+
+const FAILED: u32 = 4;
+
 // A step that meets a limit before it has written anything.
 pub fn barred(scalars: Scalars, number: u32) -> Progress
     ensures { λ r. ⌜ r ≡ record { scalars = scalars; gone = 0; number = number; did = Did.Refused } ⌝ }
@@ -56,7 +61,7 @@ pub fn succeed(words: &mut [u32], scalars: Scalars, k: usize)
     ensures { λ _. ⌜ config-of (now (words .exit)) scalars ≡ set-stepped (plan-at (now (words .entry)) k .id) (remove-step (plan-at (now (words .entry)) k .id) (config-of (now (words .entry)) scalars)) ⌝ }
 {
     state::remove_step(words, scalars, k);
-    state::set_flag(words, scalars, k, 3);
+    state::set_flag(words, scalars, k, STEPPED);
 }
 
 // "failed is set"; stepped is set.
@@ -64,6 +69,6 @@ pub fn fail(words: &mut [u32], scalars: Scalars, k: usize)
     requires { ⌜ LivePlan (now words) scalars k × (plan-at (now words) k .flags ≤ 65535) ⌝ }
     ensures { λ _. ⌜ config-of (now (words .exit)) scalars ≡ set-stepped (plan-at (now (words .entry)) k .id) (set-failed (plan-at (now (words .entry)) k .id) (config-of (now (words .entry)) scalars)) ⌝ }
 {
-    state::set_flag(words, scalars, k, 4);
-    state::set_flag(words, scalars, k, 3);
+    state::set_flag(words, scalars, k, FAILED);
+    state::set_flag(words, scalars, k, STEPPED);
 }

@@ -34,7 +34,7 @@ unfolding row
 row-long w l k h = length-take-le w (drop (k * w) l) (simp length-drop (omega arith))
 
 -- a record of the front of a list
-row-front : (w : ℕ) (A X : List ℕ) (i : ℕ) → i * w + w ≤ length A → row w (A ++ X) i ≡ row w A i
+pub row-front : (w : ℕ) (A X : List ℕ) (i : ℕ) → i * w + w ≤ length A → row w (A ++ X) i ≡ row w A i
 unfolding row
 row-front w A X i h =
     let d : length (drop (i * w) A) ≡ length A - i * w = length-drop (i * w) A in

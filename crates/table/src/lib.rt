@@ -1,11 +1,18 @@
 // Records of one width, one after the other in lent words. The width is a parameter; every table of the state is such a table.
 ghost use mathlib.Core.Path.{_≡_};
-ghost use mathlib.Core.List.{[], _∷_, _++_};
-ghost use Prim.Native.Nat.{_+_, _*_, _<_, _≤_};
-ghost use lib.ListN.{length, drop};
+ghost use Prim.Native.Nat.{_*_, _+_, _<_, _≤_};
+ghost use lib.ListN.{length, drop, getD};
 ghost use Rattle.lists.specs.Lists.{Pairs};
 ghost use Rattle.lists.specs.Tables.{keep-by, index-of};
 ghost use Rattle.table.specs.Rows.{row, rows, keys, placed};
+
+// The number in a column of record k.
+pub fn read(words: &[u32], width: usize, k: usize, column: usize) -> u32
+    requires { ⌜ (column < width) × (k * width + width ≤ length (now words)) ⌝ }
+    ensures { λ r. ⌜ r ≡ getD (row width (now (words .entry)) k) column 0 ⌝ }
+{
+    words[k * width + column]
+}
 
 // Record k becomes the given numbers.
 pub fn write(words: &mut [u32], width: usize, k: usize, numbers: &[u32])
@@ -35,15 +42,6 @@ pub fn copy_down(words: &mut [u32], width: usize, i: usize, k: usize)
         words[at + j] = words[from + j];
         j += 1;
     }
-}
-
-// One record more behind the first n; their number.
-pub fn append(words: &mut [u32], width: usize, n: usize, numbers: &[u32]) -> usize
-    requires { ⌜ (0 < width) × (length (now numbers) ≡ width) × (n * width + width ≤ length (now words)) ⌝ }
-    ensures { λ r. ⌜ (r ≡ n + 1) × (rows width r (now (words .exit)) ≡ rows width n (now (words .entry)) ++ (now (numbers .entry) ∷ [])) ⌝ }
-{
-    write(words, width, n, numbers);
-    n + 1
 }
 
 // Of the first n records those whose mark is true, in their order; their number. What lies behind the n records stays.

@@ -1,9 +1,10 @@
 -- Each test of the model, by the rows that the two spans hold.
 use mathlib.Core.Path.{sym, ap, _∙_}
-use Prim.Native.Nat.{ℕ, _-_}
+use Prim.Native.Nat.{_-_}
 use lib.Dec.{leb}
 use borrow.Author.Needs.{needs}
 use Rattle.lists.specs.Lists.{every}
+use Rattle.model.specs.Configuration.{Plan}
 use Rattle.model.specs.WellFormed.{row-has-values}
 use Rattle.program.specs.Rows.{rows-of}
 use Rattle.state.specs.View.{plan-at, config-of}
@@ -14,20 +15,14 @@ use Rattle.formed_plans.proofs.Tests.{plan-tests}
 use Rattle.formed_plans.proofs.plan_formed.Statement.{statement}
 use Rattle.formed_plans.proofs.plan_formed.Tie as tie
 
-plan-set-requires : tie.Need-plan-set-requires
-plan-set-requires c κs = search needs
-
-plan-rule-requires : tie.Need-plan-rule-requires
-plan-rule-requires c κs = search needs
+plan-at-requires : tie.Need-plan-at-requires
+plan-at-requires c κs = search needs
 
 span-of-requires : tie.Need-span-of-requires
 span-of-requires c κs = search needs
 
 body-of-requires : tie.Need-body-of-requires
 body-of-requires c κs = search needs
-
-plan-left-requires : tie.Need-plan-left-requires
-plan-left-requires c κs = search needs
 
 cast-left : tie.Need-cast-left
 cast-left c = search needs
@@ -41,46 +36,40 @@ values-fit-requires c κs = search needs
 body-has-values-requires : tie.Need-body-has-values-requires
 body-has-values-requires c κs = search needs
 
-plan-flags-requires : tie.Need-plan-flags-requires
-plan-flags-requires c κs = search needs
-
 subgoal-first-requires : tie.Need-subgoal-first-requires
 subgoal-first-requires c κs = search needs
 
 returns : tie.Need-returns
 returns c =
-    let s = c .before .before .before .before .before .before .before .before .before .before .before .before .before in
+    let s = c .before .before .before .before .before .before .before .before .before .before .before .before in
     let a = s .args in
     let W = a .words .now in
     let P = a .program .now in
     let q = plan-at W (a .k) in
+    let is = c .before .before .before .before .before .before .before .before .before .plan-at .ensures in
+    let n = c .before .before .before .before .before .before .before .before .before .plan-at .result in
     let r = c .before .before .before .before .before .before .before .before .span-of in
     let b = c .before .before .before .before .before .before .before .body-of .result in
     let w = c .before .before .before .before .before .before .before .body-of .ensures in
-    let set = c .before .before .before .before .before .before .before .before .before .before .plan-set in
-    let rule = c .before .before .before .before .before .before .before .before .before .plan-rule in
-    let o = object-is P (q .set) (q .rule) (r .result .from) (r .result .to) (r .ensures .1 ∙ part-named P q (set .result) (rule .result) 1 (set .ensures) (rule .ensures)) in
+    let o = object-is P (q .set) (q .rule) (r .result .from) (r .result .to) (r .ensures .1 ∙ part-named P q (n .set) (n .rule) 1 (ap (λ (p : Plan). p .set) is) (ap (λ (p : Plan). p .rule) is)) in
     plan-tests (rows-of P) (config-of W (a .scalars)) q (values-long W (a .k) (s .pre .0 .long) (s .pre .1))
     o
-    (ap (λ (n : ℕ). leb n (b .to - b .from)) (c .before .before .before .before .before .plan-left .ensures) ∙ ap (leb (q .left)) (sym (body-long P q b w)))
+    (ap (λ (p : Plan). leb (p .left) (b .to - b .from)) is ∙ ap (leb (q .left)) (sym (body-long P q b w)))
     (c .before .before .before .values-fit .ensures)
     (c .before .before .body-has-values .ensures ∙ ap (every (row-has-values (q .values))) (w .rows))
-    (ap (λ (n : ℕ). leb n 65535) (c .before .plan-flags .ensures))
+    (ap (λ (p : Plan). leb (p .flags) 65535) is)
     (c .subgoal-first .ensures)
 
 pub plan-formed-spec : {M : Type 1} → statement M
 plan-formed-spec =
     tie.close
     (tie.spec
-    plan-set-requires
-    plan-rule-requires
+    plan-at-requires
     span-of-requires
     body-of-requires
-    plan-left-requires
     cast-left
     sub-left
     values-fit-requires
     body-has-values-requires
-    plan-flags-requires
     subgoal-first-requires
     returns)

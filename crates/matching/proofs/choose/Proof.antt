@@ -6,13 +6,14 @@ use mathlib.Core.Path.{_≡_, refl, sym, ap, _∙_, subst}
 use mathlib.Core.Bool.{false≢true}
 use mathlib.Core.Logic.{⊎-elim}
 use mathlib.Core.List.{[], _∷_, map}
-use Prim.Native.Nat.{ℕ, _+_, _-_, _≤_}
+use Prim.Native.Nat.{ℕ, _+_, _-_, _<_, _≤_}
 use native.Mathlib.Omega.{arith}
 use lib.Dec.{eqb}
 use Rattle.lists.specs.Lists.{bit, first-of, is-empty}
 use Rattle.lists.proofs.Search.{Only, spent, reached, backed, pruned}
+use Rattle.model.specs.declared.Row.{Row}
 use Rattle.model.specs.Matching.{Found}
-use Rattle.program.specs.Rows.{rows-of}
+use Rattle.program.specs.Rows.{row-at, rows-of}
 use Rattle.program.proofs.Words.{row-inside}
 use Rattle.queries.specs.View.{found-of, match-of}
 use Rattle.queries.specs.Answers.{answers, width}
@@ -25,11 +26,11 @@ use Rattle.matching.proofs.choose.Statement.{statement}
 use Rattle.matching.proofs.choose.Tie as tie
 
 abbrev Inv-candidates : tie.InvT-candidates
-Inv-candidates program words s set f values best₀ n number start context body end rule r once c₀ best c =
+Inv-candidates program words s set f values best₀ n number start r context body end rule once c₀ best c =
     Trying program words s rule best start r (found-of f) once c
 
 abbrev μ-candidates : tie.MeasureT-candidates
-μ-candidates program words s set f values best₀ n number start context body end rule r once c₀ best c = width s r - c
+μ-candidates program words s set f values best₀ n number start r context body end rule once c₀ best c = width s r - c
 
 abbrev Inv-rules : tie.InvT-rules
 Inv-rules program words s set f values best₀ n number₀ start₀ best number start = Choosing program words s set best number start
@@ -39,44 +40,57 @@ abbrev μ-rules : tie.MeasureT-rules
 
 -- the bounds of the rule's parts
 parts : (c : tie.After-part-end3 Inv-candidates μ-candidates Inv-rules μ-rules) →
-    let i = c .before .before .before .before .before .before in
+    let i = c .before .before .before .before .before .before .before in
     let a = i .before .before .before .before .before .before .args in
     Parts (a .program .now) (a .set) (i .rules .number) (i .rules .start) (c .before .before .part-end .result) (c .before .part-end2 .result) (c .part-end3 .result)
 parts c = record {
-  first = c .before .before .before .before .before .before .rules .inv .bound;
+  first = c .before .before .before .before .before .before .before .rules .inv .bound;
   second = c .before .before .part-end .ensures;
   third = c .before .part-end2 .ensures;
   fourth = c .part-end3 .ensures;
 }
 
+-- its first row, which is of the set
+abbrev first : tie.After-part-end3 Inv-candidates μ-candidates Inv-rules μ-rules → Row
+first c = c .before .before .before .before .before .row-at .result
+
+abbrev first-is : (c : tie.After-part-end3 Inv-candidates μ-candidates Inv-rules μ-rules) →
+    let i = c .before .before .before .before .before .before .before in
+    first c ≡ row-at (i .before .before .before .before .before .before .args .program .now) (i .rules .start)
+first-is c = c .before .before .before .before .before .row-at .ensures
+
+of-set : (c : tie.After-part-end3 Inv-candidates μ-candidates Inv-rules μ-rules) →
+    let i = c .before .before .before .before .before .before .before in
+    let a = i .before .before .before .before .before .before .args in
+    row-at (a .program .now) (i .rules .start) .set ≡ a .set
+of-set c = ap (λ (r : Row). r .set) (sym (first-is c)) ∙ c .before .before .before .if1 .left
+
 -- there is such a rule
 there : (c : tie.After-part-end3 Inv-candidates μ-candidates Inv-rules μ-rules) →
-    let i = c .before .before .before .before .before .before in
+    let i = c .before .before .before .before .before .before .before in
     i .rules .number ≤ top (rows-of (i .before .before .before .before .before .before .args .program .now)) (i .before .before .before .before .before .before .args .set)
 there c =
-    let i = c .before .before .before .before .before .before in
+    let i = c .before .before .before .before .before .before .before in
     let s = i .before .before .before .before .before .before in
-    rule-there (s .args .program .now) (s .pre .0) (s .args .set) (i .rules .number) (i .rules .start) (i .rules .inv .bound) (c .before .before .before .before .before .rules-test .taken) (c .before .before .before .if1 .left)
+    rule-there (s .args .program .now) (s .pre .0) (s .args .set) (i .rules .number) (i .rules .start) (i .rules .inv .bound) (c .before .before .before .before .before .before .rules-test .taken) (of-set c)
 
 -- its reasons are four at most, and those left behind its first row
 few : (c : tie.After-part-end3 Inv-candidates μ-candidates Inv-rules μ-rules) →
-    let i = c .before .before .before .before .before .before in
+    let i = c .before .before .before .before .before .before .before in
     reasons-in (i .before .before .before .before .before .before .args .program .now) (i .rules .start) (c .before .part-end2 .result) ≤ 4
 few c =
-    let i = c .before .before .before .before .before .before in
+    let i = c .before .before .before .before .before .before .before in
     let s = i .before .before .before .before .before .before in
     reasons-few (s .args .program .now) (s .args .set) (i .rules .number) (i .rules .start) (c .before .before .part-end .result) (c .before .part-end2 .result) (c .part-end3 .result) (parts c) (s .pre .0)
 
-left : (g : tie.After-row-at Inv-candidates μ-candidates Inv-rules μ-rules) →
-    let c = g .before .before in
-    let i = c .before .before .before .before .before .before in
+left : (c : tie.After-part-end3 Inv-candidates μ-candidates Inv-rules μ-rules) →
+    let i = c .before .before .before .before .before .before .before in
     let a = i .before .before .before .before .before .before .args in
-    reasons-in (a .program .now) (i .rules .start) (c .before .part-end2 .result) ≡ bit (eqb (g .row-at .result .part) 1) + reasons-in (a .program .now) (i .rules .start + 1) (c .before .part-end2 .result)
-left g =
-    let c = g .before .before in
-    let i = c .before .before .before .before .before .before in
+    i .rules .start < c .before .part-end2 .result → reasons-in (a .program .now) (i .rules .start) (c .before .part-end2 .result) ≡ bit (eqb (first c .part) 1) + reasons-in (a .program .now) (i .rules .start + 1) (c .before .part-end2 .result)
+left c h =
+    let i = c .before .before .before .before .before .before .before in
     let a = i .before .before .before .before .before .before .args in
-    reasons-next (a .program .now) (i .rules .start) (c .before .part-end2 .result) (g .before .if2 .left) (g .row-at .result) (g .row-at .ensures)
+    reasons-next (a .program .now) (i .rules .start) (c .before .part-end2 .result) h (first c) (first-is c)
 
 nothing-requires : tie.Need-nothing-requires Inv-candidates μ-candidates Inv-rules μ-rules
 nothing-requires c κs = search needs
@@ -87,35 +101,25 @@ first-from-requires c κs = c .before .before .before .before .pre .0 .ordered
 rules-holds : tie.Need-rules-holds Inv-candidates μ-candidates Inv-rules μ-rules
 rules-holds c = record { none = refl; positive = omega arith; bound = c .first-from .ensures; is = fires-all _ _ _ }
 
-mul-if1 : tie.Need-mul-if1 Inv-candidates μ-candidates Inv-rules μ-rules
-mul-if1 c = omega arith
-
-mul-if1-2 : tie.Need-mul-if1-2 Inv-candidates μ-candidates Inv-rules μ-rules
-mul-if1-2 c = omega arith
-
-shared-slice-read-if1 : tie.Need-shared-slice-read-if1 Inv-candidates μ-candidates Inv-rules μ-rules
-shared-slice-read-if1 c = let h = row-inside (c .before .before .before .before .before .before .before .before .args .program .now) (c .before .before .rules .start) (c .before .rules-test .taken) in omega arith
+row-at-requires : tie.Need-row-at-requires Inv-candidates μ-candidates Inv-rules μ-rules
+row-at-requires c κs = row-inside (c .before .before .before .before .before .before .before .args .program .now) (c .before .rules .start) (c .rules-test .taken)
 
 part-end-requires : tie.Need-part-end-requires Inv-candidates μ-candidates Inv-rules μ-rules
-part-end-requires c κs = (c .before .before .before .before .before .before .before .before .before .pre .0 .ordered, c .before .before .before .rules .inv .bound)
+part-end-requires c κs = (c .before .before .before .before .before .before .before .before .before .before .pre .0 .ordered, c .before .before .before .before .rules .inv .bound)
 
 part-end-requires-2 : tie.Need-part-end-requires-2 Inv-candidates μ-candidates Inv-rules μ-rules
-part-end-requires-2 c κs = (c .before .before .before .before .before .before .before .before .before .before .pre .0 .ordered, c .part-end .ensures)
+part-end-requires-2 c κs = (c .before .before .before .before .before .before .before .before .before .before .before .pre .0 .ordered, c .part-end .ensures)
 
 part-end-requires-3 : tie.Need-part-end-requires-3 Inv-candidates μ-candidates Inv-rules μ-rules
-part-end-requires-3 c κs = (c .before .before .before .before .before .before .before .before .before .before .before .pre .0 .ordered, c .part-end2 .ensures)
-
-row-at-requires : tie.Need-row-at-requires Inv-candidates μ-candidates Inv-rules μ-rules
-row-at-requires c κs = row-inside (c .before .before .before .before .before .before .before .before .before .before .before .before .before .args .program .now) (c .before .before .before .before .before .before .before .rules .start) (c .before .before .before .before .before .before .rules-test .taken)
+part-end-requires-3 c κs = (c .before .before .before .before .before .before .before .before .before .before .before .before .pre .0 .ordered, c .part-end2 .ensures)
 
 closes-requires : tie.Need-closes-requires Inv-candidates μ-candidates Inv-rules μ-rules
 closes-requires c κs = search needs
 
 candidates-holds : tie.Need-candidates-holds Inv-candidates μ-candidates Inv-rules μ-rules
 candidates-holds c =
-    let g = c .before in
-    let p = g .before .before in
-    let i = p .before .before .before .before .before .before in
+    let p = c .before .before in
+    let i = p .before .before .before .before .before .before .before in
     let e = i .before .before .before in
     let s = e .before .before .before in
     let a = s .args in
@@ -124,31 +128,32 @@ candidates-holds c =
       at-first = λ _. refl;
       is = i .rules .inv .is
           ∙ ap first-of (fires-by-answers (a .program .now) (a .set) (i .rules .number) (i .rules .start) (p .before .before .part-end .result) (p .before .part-end2 .result) (p .part-end3 .result) (parts p) (a .words .now) (a .s)
-          (there p) (g .before .if2 .left) (g .row-at .result) (g .row-at .ensures) (found-of (e .nothing .result)) (e .nothing .ensures .0));
+          (there p) (c .before .if2 .left) (first p) (first-is p) (found-of (e .nothing .result)) (e .nothing .ensures .0));
     }
 
 next-answer-requires : tie.Need-next-answer-requires Inv-candidates μ-candidates Inv-rules μ-rules
 next-answer-requires c κs =
-    let g = c .before .before in
-    let n = left g in
-    let z = g .before .before .before .before .before .before .before .before .before .before .before .nothing .ensures .1 in
-    let m = few (g .before .before) in
-    (c .before .before .before .before .before .before .before .before .before .before .before .before .before .before .before .before .pre .1, omega arith)
+    let p = c .before .before .before in
+    let e = p .before .before .before .before .before .before .before .before .before .before in
+    let n = left p (c .before .before .if2 .left) in
+    let z = e .nothing .ensures .1 in
+    let m = few p in
+    (e .before .before .before .pre .1, omega arith)
 
 add-search : tie.Need-add-search Inv-candidates μ-candidates Inv-rules μ-rules
-add-search c = let g = c .before .before .before .before .before .before in let q = g .before .before in let m = parts q .third .inside in let h = g .before .if2 .left in omega arith
+add-search c = let g = c .before .before .before .before .before .before in let m = parts (g .before) .third .inside in let h = g .if2 .left in omega arith
 
 search-requires : tie.Need-search-requires Inv-candidates μ-candidates Inv-rules μ-rules
 search-requires c κs =
     let x = c .before .before .before in
     let g = x .before .before .before in
-    let p = g .before .before in
-    let i = p .before .before .before .before .before .before in
+    let p = g .before in
+    let i = p .before .before .before .before .before .before .before in
     let s = i .before .before .before .before .before .before in
     let a = s .args in
-    let n = left g in
+    let n = left p (g .if2 .left) in
     let m = few p in
-    let z = g .before .before .before .before .before .before .before .before .before .before .before .nothing .ensures .1 in
+    let z = i .before .before .before .nothing .ensures .1 in
     let k = x .next-answer .ensures .few in
     (located (a .program .now) (a .set) (i .rules .number) (i .rules .start) (p .before .before .part-end .result) (p .before .part-end2 .result) (p .part-end3 .result) (parts p), s .pre .1, omega arith)
 
@@ -175,20 +180,20 @@ candidates-again c =
 
 add-number : tie.Need-add-number Inv-candidates μ-candidates Inv-rules μ-rules
 add-number c =
-    let p = c .before .before .before .before .before .before .before in
-    let i = p .before .before .before .before .before .before in
+    let p = c .before .before .before .before .before .before in
+    let i = p .before .before .before .before .before .before .before in
     let s = i .before .before .before .before .before .before in
-    let h = rule-small (s .args .program .now) (s .pre .0) (s .args .set) (i .rules .number) (i .rules .start) (i .rules .inv .bound) (p .before .before .before .before .before .rules-test .taken) (p .before .before .before .if1 .left) (i .rules .inv .positive) in
+    let h = rule-small (s .args .program .now) (s .pre .0) (s .args .set) (i .rules .number) (i .rules .start) (i .rules .inv .bound) (p .before .before .before .before .before .before .rules-test .taken) (of-set p) (i .rules .inv .positive) in
     omega arith
 
 rules-less : tie.Need-rules-less Inv-candidates μ-candidates Inv-rules μ-rules
 rules-less c =
-    let p = c .before .before .before .before .before .before .before in
-    let i = p .before .before .before .before .before .before in
+    let p = c .before .before .before .before .before .before in
+    let i = p .before .before .before .before .before .before .before in
     let a = i .before .before .before .before .before .before .args in
     let r = parts-rise (a .program .now) (a .set) (i .rules .number) (i .rules .start) (p .before .before .part-end .result) (p .before .part-end2 .result) (p .part-end3 .result) (parts p) .2 in
-    let h = c .before .before .before .before .before .before .if2 .left in
-    let l = p .before .before .before .before .before .rules-test .taken in
+    let h = c .before .before .before .before .before .if2 .left in
+    let l = p .before .before .before .before .before .before .rules-test .taken in
     omega arith
 
 rules-again : tie.Need-rules-again Inv-candidates μ-candidates Inv-rules μ-rules
@@ -196,8 +201,8 @@ rules-again c =
     let x = c .before .before in
     let l = x .before in
     let o = l .before in
-    let p = o .before .before .before in
-    let i = p .before .before .before .before .before .before in
+    let p = o .before .before in
+    let i = p .before .before .before .before .before .before .before in
     let e = i .before .before .before in
     let s = e .before .before .before in
     let a = s .args in
@@ -209,7 +214,7 @@ rules-again c =
       is = ⊎-elim
           (λ w. spent _ _ _ (l .candidates .inv .is) (answer-none _ _ _ _ (x .next-answer .result) _ (x .next-answer .ensures .is) (not-true _ (w .taken))))
           (λ w. pruned f _ _ _ (l .candidates .inv .is)
-          (subst (λ (n : ℕ). Only f (answers (a .words .now) (a .s) (o .before .row-at .result) f n)) (sym (l .candidates .inv .at-first (w .4 .taken)))
+          (subst (λ (n : ℕ). Only f (answers (a .words .now) (a .s) (first p) f n)) (sym (l .candidates .inv .at-first (w .4 .taken)))
           (only-answers _ _ _ _ (sym (o .closes .ensures) ∙ w .4 .taken)))
           _ _ (answer-one _ _ _ _ (x .next-answer .result) _ (x .next-answer .ensures .is) (not-false _ (w .0 .left)))
           (map (fired _) (match-of (w .2 .result))) (firing-first _ _ _ _ _ _ (w .2 .result) (w .2 .ensures .is)) (firing-none _ (w .2 .result) (w .3 .left)))
@@ -224,14 +229,14 @@ returns c =
 
 returns-2 : tie.Need-returns-2 Inv-candidates μ-candidates Inv-rules μ-rules
 returns-2 c =
-    let i = c .before .before .before in
+    let i = c .before .before .before .before in
     let s = i .before .before .before .before .before .before in
-    (choice-ends _ _ _ _ _ _ _ (i .rules .inv) (s .pre .0) (λ h. c .if1 .taken), not-chosen _ _ _ _ _ _ _ (i .rules .inv))
+    (choice-ends _ _ _ _ _ _ _ (i .rules .inv) (s .pre .0) (λ h q. c .if1 .taken (ap (λ (r : Row). r .set) (c .before .before .row-at .ensures) ∙ q)), not-chosen _ _ _ _ _ _ _ (i .rules .inv))
 
 returns-3 : tie.Need-returns-3 Inv-candidates μ-candidates Inv-rules μ-rules
 returns-3 c =
     let p = c .before in
-    let i = p .before .before .before .before .before .before in
+    let i = p .before .before .before .before .before .before .before in
     let e = i .before .before .before in
     let s = e .before .before .before in
     let a = s .args in
@@ -248,8 +253,8 @@ returns-4 c =
     let y = q .before .before in
     let x = y .before .before in
     let l = x .before in
-    let p = l .before .before .before .before in
-    let i = p .before .before .before .before .before .before in
+    let p = l .before .before .before in
+    let i = p .before .before .before .before .before .before .before in
     let a = i .before .before .before .before .before .before .args in
     let m = q .search .result in (
       sym (firing-one _ m (c .before .if4 .taken))
@@ -261,4 +266,4 @@ returns-4 c =
 pub choose-spec : {M : Type 1} → statement M
 choose-spec =
     tie.close
-    (tie.spec Inv-candidates μ-candidates Inv-rules μ-rules nothing-requires first-from-requires rules-holds mul-if1 mul-if1-2 shared-slice-read-if1 part-end-requires part-end-requires-2 part-end-requires-3 row-at-requires closes-requires candidates-holds next-answer-requires add-search search-requires candidates-less candidates-again add-number rules-less rules-again returns returns-2 returns-3 returns-4)
+    (tie.spec Inv-candidates μ-candidates Inv-rules μ-rules nothing-requires first-from-requires rules-holds row-at-requires part-end-requires part-end-requires-2 part-end-requires-3 closes-requires candidates-holds next-answer-requires add-search search-requires candidates-less candidates-again add-number rules-less rules-again returns returns-2 returns-3 returns-4)

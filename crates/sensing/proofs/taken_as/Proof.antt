@@ -1,18 +1,16 @@
 -- What was passed applies to nothing: the answer is that of the rows that are left.
-use mathlib.Core.Path.{_≡_, sym, _∙_}
+use mathlib.Core.Path.{_≡_, sym, ap, _∙_}
 use Prim.Native.Nat.{_-_}
 use native.Mathlib.Omega.{arith}
 use borrow.Author.Needs.{needs}
-use Rattle.model.specs.Calls.{taken-as}
-use Rattle.program.specs.Rows.{rows-of}
+use Rattle.model.specs.declared.Row.{Row}
+use Rattle.model.specs.Calls.{taken-as, applies as does-apply}
+use Rattle.program.specs.Rows.{row-at, rows-of}
+use Rattle.program.proofs.Words.{row-inside}
 use Rattle.sensing.specs.Sensing.{reading-of}
 use Rattle.sensing.proofs.Ceilings.{left-of, left-first, left-skip, left-hit, left-none}
 use Rattle.sensing.proofs.taken_as.Statement.{statement}
 use Rattle.sensing.proofs.taken_as.Tie as tie
-use Rattle.sensing.proofs.taken_as.Reads as reads
-use Rattle.sensing.proofs.taken_as.Lts as lts
-use Rattle.sensing.proofs.applies.Reads as applies-reads
-use Rattle.model.proofs.constant.Reads as constant-reads
 
 abbrev Inv-loop : tie.InvT-loop
 Inv-loop program reading n k₀ k = taken-as (rows-of program) (reading-of reading) ≡ left-of program (reading-of reading) k n
@@ -20,57 +18,49 @@ Inv-loop program reading n k₀ k = taken-as (rows-of program) (reading-of readi
 abbrev μ-loop : tie.MeasureT-loop
 μ-loop program reading n k₀ k = n - k
 
--- src/lib.rt:66:5
+-- the model's answer for the row that was read
+told : (c : tie.After-applies Inv-loop μ-loop) →
+    let b = c .before .before .before in
+    let a = b .before .before .args in
+    does-apply (reading-of (a .reading)) (row-at (a .program .now) (b .loop .k)) ≡ c .applies .result
+told c =
+    let a = c .before .before .before .before .before .args in
+    ap (does-apply (reading-of (a .reading))) (sym (c .before .row-at .ensures)) ∙ sym (c .applies .ensures)
+
 loop-holds : tie.Need-loop-holds Inv-loop μ-loop
 loop-holds c = left-first _ _
 
--- src/lib.rt:67:12
+row-at-requires : tie.Need-row-at-requires Inv-loop μ-loop
+row-at-requires c κs = search (needs, row-inside)
+
 applies-requires : tie.Need-applies-requires Inv-loop μ-loop
 applies-requires c κs = search needs
 
--- src/lib.rt:68:37
-mul-constant : tie.Need-mul-constant Inv-loop μ-loop
-mul-constant c = search needs
-
--- src/lib.rt:68:37
-add-constant : tie.Need-add-constant Inv-loop μ-loop
-add-constant c = search needs
-
--- src/lib.rt:68:29
-mul-constant-2 : tie.Need-mul-constant-2 Inv-loop μ-loop
-mul-constant-2 c = search needs
-
--- src/lib.rt:68:29
-shared-slice-read-constant : tie.Need-shared-slice-read-constant Inv-loop μ-loop
-shared-slice-read-constant c = search needs
-
--- src/lib.rt:68:13
 constant-requires : tie.Need-constant-requires Inv-loop μ-loop
 constant-requires c κs = search needs
 
--- src/lib.rt:68:13
 returns : tie.Need-returns Inv-loop μ-loop
 returns c =
-    let b = c .before .before .before .before .before in
+    let p = c .before .before in
+    let b = p .before .before .before in
     let a = b .before .before .args in
-    c .constant .ensures ∙ sym (b .loop .inv ∙ left-hit (a .program .now) (reading-of (a .reading)) (b .loop .k) _ (omega arith) (sym (c .before .before .before .applies .ensures) ∙ c .before .before .if1 .taken))
+    c .constant .ensures
+    ∙ ap (λ (r : Row). r .b - 9) (p .before .row-at .ensures)
+    ∙ sym (b .loop .inv ∙ left-hit (a .program .now) (reading-of (a .reading)) (b .loop .k) _ (omega arith) (told p ∙ c .before .if1 .taken))
 
--- src/lib.rt:70:9
 add-k : tie.Need-add-k Inv-loop μ-loop
 add-k c = search needs
 
--- src/lib.rt:66:5
 loop-less : tie.Need-loop-less Inv-loop μ-loop
 loop-less c = search needs
 
--- src/lib.rt:66:5
 loop-again : tie.Need-loop-again Inv-loop μ-loop
 loop-again c =
-    let b = c .before .before .before in
+    let p = c .before in
+    let b = p .before .before .before in
     let a = b .before .before .args in
-    b .loop .inv ∙ left-skip (a .program .now) (reading-of (a .reading)) (b .loop .k) _ (omega arith) (sym (c .before .applies .ensures) ∙ c .if1 .left)
+    b .loop .inv ∙ left-skip (a .program .now) (reading-of (a .reading)) (b .loop .k) _ (omega arith) (told p ∙ c .if1 .left)
 
--- src/lib.rt:61:1
 returns-2 : tie.Need-returns-2 Inv-loop μ-loop
 returns-2 c =
     let b = c .before in
@@ -84,11 +74,8 @@ taken-as-spec =
     Inv-loop
     μ-loop
     loop-holds
+    row-at-requires
     applies-requires
-    mul-constant
-    add-constant
-    mul-constant-2
-    shared-slice-read-constant
     constant-requires
     returns
     add-k

@@ -12,8 +12,8 @@ use Rattle.state.proofs.append_plan.Tie as tie
 cast-n : tie.Need-cast-n
 cast-n c = search needs
 
-plan-numbers-requires : tie.Need-plan-numbers-requires
-plan-numbers-requires c κs = search needs
+plan-words-requires : tie.Need-plan-words-requires
+plan-words-requires c κs = search needs
 
 sub-write : tie.Need-sub-write
 sub-write c = search needs
@@ -45,7 +45,7 @@ returns c =
     let hv : length (a .values) ≡ 8 = search needs in (
       c .plan-made .ensures,
       rw (c .plan-made .ensures) (plan-appended W (a .scalars) (a .set) (a .rule) (a .left) (a .justifications) (a .values) (c .before .before .before .write .last .0) (s .pre .0) (s .pre .1) (s .pre .2) hj hv
-          (c .before .before .before .write .ensures ∙ ap (placed 18 (part 1280 (length W - 1280) W) (a .scalars .plans)) (c .before .before .before .before .before .before .plan-numbers .ensures))),
+          (c .before .before .before .write .ensures ∙ ap (placed 18 (part 1280 (length W - 1280) W) (a .scalars .plans)) (c .before .before .before .before .before .before .plan-words .ensures))),
     )
 
 pub append-plan-spec : {M : Type 1} → statement M
@@ -53,7 +53,7 @@ append-plan-spec =
     tie.close
     (tie.spec
     cast-n
-    plan-numbers-requires
+    plan-words-requires
     sub-write
     part-write-start
     part-write-end

@@ -1,74 +1,36 @@
--- Five words of a row.
+-- Five numbers of a record.
+use mathlib.Core.Path.{_≡_}
 use borrow.Author.Needs.{needs}
-use Rattle.state.proofs.View.{atom-by-words}
+use Rattle.state.specs.View.{atom-at}
 use Rattle.state.proofs.atom_at.Statement.{statement}
 use Rattle.state.proofs.atom_at.Tie as tie
 
-mul-i : tie.Need-mul-i
-mul-i c = search needs
+read-requires : tie.Need-read-requires
+read-requires c κs = search needs
 
-mul-t4 : tie.Need-mul-t4
-mul-t4 c = search needs
+read-requires-2 : tie.Need-read-requires-2
+read-requires-2 c κs = search needs
 
-shared-slice-read-t6 : tie.Need-shared-slice-read-t6
-shared-slice-read-t6 c = search needs
+read-requires-3 : tie.Need-read-requires-3
+read-requires-3 c κs = search needs
 
-add-t7 : tie.Need-add-t7
-add-t7 c = search needs
+read-requires-4 : tie.Need-read-requires-4
+read-requires-4 c κs = search needs
 
-mul-t8 : tie.Need-mul-t8
-mul-t8 c = search needs
-
-shared-slice-read-t10 : tie.Need-shared-slice-read-t10
-shared-slice-read-t10 c = search needs
-
-add-t11 : tie.Need-add-t11
-add-t11 c = search needs
-
-mul-t12 : tie.Need-mul-t12
-mul-t12 c = search needs
-
-shared-slice-read-t14 : tie.Need-shared-slice-read-t14
-shared-slice-read-t14 c = search needs
-
-add-t15 : tie.Need-add-t15
-add-t15 c = search needs
-
-mul-t16 : tie.Need-mul-t16
-mul-t16 c = search needs
-
-shared-slice-read-t18 : tie.Need-shared-slice-read-t18
-shared-slice-read-t18 c = search needs
-
-add-t19 : tie.Need-add-t19
-add-t19 c = search needs
-
-mul-t20 : tie.Need-mul-t20
-mul-t20 c = search needs
-
-shared-slice-read-t22 : tie.Need-shared-slice-read-t22
-shared-slice-read-t22 c = search needs
+read-requires-5 : tie.Need-read-requires-5
+read-requires-5 c κs = search needs
 
 returns : tie.Need-returns
-returns c = let a = c .before .before .before .before .before .args in atom-by-words (a .words .now) (a .k)
+unfolding atom-at
+returns c = cc
 
 pub atom-at-spec : {M : Type 1} → statement M
 atom-at-spec =
     tie.close
     (tie.spec
-    mul-i
-    mul-t4
-    shared-slice-read-t6
-    add-t7
-    mul-t8
-    shared-slice-read-t10
-    add-t11
-    mul-t12
-    shared-slice-read-t14
-    add-t15
-    mul-t16
-    shared-slice-read-t18
-    add-t19
-    mul-t20
-    shared-slice-read-t22
+    read-requires
+    read-requires-2
+    read-requires-3
+    read-requires-4
+    read-requires-5
     returns)

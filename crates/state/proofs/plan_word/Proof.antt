@@ -1,28 +1,30 @@
--- A word of the part that holds the plans.
+-- A number of the part that holds the plans.
+use mathlib.Core.Path.{ap, _∙_}
+use mathlib.Core.List.{List, []}
+use Prim.Native.Nat.{ℕ}
+use lib.ListN.{getD}
 use borrow.Author.Needs.{needs}
-use Rattle.state.proofs.View.{plan-word-is}
+use Rattle.table.specs.Rows.{row}
+use Rattle.table.proofs.Parts.{rest-is}
 use Rattle.state.proofs.plan_word.Statement.{statement}
 use Rattle.state.proofs.plan_word.Tie as tie
 
-mul-result : tie.Need-mul-result
-mul-result c = search needs
+sub-read : tie.Need-sub-read
+sub-read c = search needs
 
-add-result : tie.Need-add-result
-add-result c = search needs
+part-read-start : tie.Need-part-read-start
+part-read-start c = search needs
 
-add-result-2 : tie.Need-add-result-2
-add-result-2 c = search needs
+part-read-end : tie.Need-part-read-end
+part-read-end c = search needs
 
-mul-result-2 : tie.Need-mul-result-2
-mul-result-2 c = search needs
-
-shared-slice-read-result : tie.Need-shared-slice-read-result
-shared-slice-read-result c = search needs
+read-requires : tie.Need-read-requires
+read-requires c κs = search needs
 
 returns : tie.Need-returns
-returns c = let s = c .before in let a = s .args in plan-word-is (a .words .now) (a .k) (a .column) (s .pre .2)
+returns c =
+    let a = c .before .before .before .args in
+    c .read .ensures ∙ ap (λ (l : List ℕ). getD (row 18 l (a .k)) (a .column) 0) (rest-is 1280 (a .words .now) [])
 
 pub plan-word-spec : {M : Type 1} → statement M
-plan-word-spec =
-    tie.close
-    (tie.spec mul-result add-result add-result-2 mul-result-2 shared-slice-read-result returns)
+plan-word-spec = tie.close (tie.spec sub-read part-read-start part-read-end read-requires returns)
