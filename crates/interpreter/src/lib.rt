@@ -55,7 +55,7 @@ fn refuse(config: Config, number: u32) -> Reply
 }
 
 // Refusal 1: the program and the configuration are well formed.
-fn admits(program: &[u32], words: &[u32], scalars: Scalars) -> bool
+pub fn admits(program: &[u32], words: &[u32], scalars: Scalars) -> bool
     requires { ⌜ length (now words) ≡ 2432 ⌝ }
     ensures { λ r. ⌜ r ≡ admitted (now (program .entry)) (config-of (now (words .entry)) scalars) ⌝ }
 {

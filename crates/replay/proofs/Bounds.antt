@@ -1,0 +1,67 @@
+-- Why what the program reads and writes stands within its buffers.
+use mathlib.Core.Path.{_≡_, ap, sym, _∙_}
+use mathlib.Core.Bool.{true}
+use mathlib.Core.List.{List, [], _∷_, _++_}
+use mathlib.Core.Logic.{_≢_}
+use Prim.Native.Nat.{ℕ, _+_, _-_, _<_, _≤_}
+use native.Mathlib.Omega.{arith}
+use lib.ListN.{length, take, drop, length-append, length-drop}
+use lib.Seq.{length-take-le}
+use Rattle.text.specs.Reading.{Ends}
+use Rattle.script.specs.Reading.{spaces-in}
+use Rattle.program.specs.declared.Loaded.{Loaded}
+use Rattle.program.specs.Loading as Loading
+use Rattle.program.specs.Loading.{Answer}
+use Rattle.loading.specs.declared.Started.{Started}
+use Rattle.loading.specs.Starting.{Start, seen, starting}
+use Rattle.loading.proofs.Starts.{few-rows}
+use Rattle.state.specs.declared.Config.{Config}
+use Rattle.state.specs.declared.Scalars.{Scalars}
+use Rattle.state.specs.View.{config-of}
+use Rattle.model.specs.Configuration as Configuration
+use Rattle.model.specs.Run.{listing}
+use Rattle.listing.specs.Listing.{Listable}
+use Rattle.listing.proofs.Well.{listable}
+use Rattle.interpreter.specs.Calls.{admitted}
+use Rattle.interpreter.proofs.Outcomes.{given-admitted}
+
+-- the end of a line that is looked for in the first n bytes
+pub ends-inside : (l : List ℕ) (n from r : ℕ) → n ≤ length l → Ends (take n l) from r → (from ≤ r) × (r ≤ n)
+ends-inside l n from r h e = (e .low, let k = length-take-le n l h in omega (arith, k, e .high))
+
+-- an accepted load has at most 512 rows
+pub rows-started : (text lent : List ℕ) (c : Configuration.Config) (r : Started) (after : List ℕ) → seen r after ≡ starting text lent c → r .number ≡ 0 → r .rows ≤ 512
+unfolding seen starting Loading.seen
+rows-started text lent c r after e z =
+    few-rows text lent (record { number = r .number; line = r .line; rows = r .rows }) after (ap (λ (s : Start). s .answer) e) z
+
+-- what is admitted can be listed
+pub admitted-listable : (program words : List ℕ) (s : Scalars) → length words ≡ 2432 → admitted program (config-of words s) ≡ true → Listable words s
+admitted-listable program words s l a = listable program words s (record { long = l; well = given-admitted program (config-of words s) a })
+
+-- the listing stands first in the page
+pub listed-inside : (words : List ℕ) (s : Scalars) (out before : List ℕ) (r : ℕ) → out ≡ listing (config-of words s) ++ drop r before → r ≡ length (listing (config-of words s)) → r ≤ length out
+listed-inside words s out before r e n =
+    let l = ap (λ (x : List ℕ). length x) e in
+    let m = length-append (listing (config-of words s)) (drop r before) in
+    omega (arith, l, m, n)
+
+-- where a space follows, the line goes on
+some-space : (l : List ℕ) → spaces-in l ≡ 1 → 1 ≤ length l
+unfolding spaces-in
+some-space [] e = absurd (omega (arith, e))
+some-space (c ∷ l) e = omega arith
+
+pub space-follows : (line : List ℕ) (end n : ℕ) → n ≡ spaces-in (drop end line) → n ≡ 1 → end + 1 ≤ length line
+space-follows line end n e o =
+    let h = some-space (drop end line) (sym e ∙ o) in
+    let l = length-drop end line in
+    omega (arith, h, l)
+
+-- a line that begins within the first n bytes
+pub begins-inside : (l : List ℕ) (n from : ℕ) → from ≤ n → n ≤ length l → from ≤ length (take n l)
+begins-inside l n from h k = let e = length-take-le n l k in omega (arith, e)
+
+-- with more bytes than before fewer can be missing to a line that is too long
+pub fewer-missing : (held filled : ℕ) → held ≤ 4096 → held ≤ filled → filled ≢ held → 4097 - (filled - 0) < 4097 - held
+fewer-missing held filled h k d = omega (arith, h, k, d)
