@@ -27,6 +27,7 @@ use Rattle.program_laws.proofs.Lawful.{lawful}
 use Rattle.program_laws.proofs.WellFormed.{loads-well-formed}
 use Rattle.demands.proofs.Numbers.{Numbered, sense-numbered}
 use Rattle.demands.proofs.Runs.{ran-keeps}
+use Rattle.table.specs.Rows.{row}
 use Rattle.state.specs.declared.Config.{Config}
 use Rattle.loading.specs.declared.Started.{Started}
 use Rattle.loading.specs.Starting.{Start, started-from, starting, seen}
@@ -40,7 +41,7 @@ abbrev pub probe : List ℕ
 probe = 1 ∷ 1 ∷ 3 ∷ 1200 ∷ []
 
 probed : readings-of probe ≡ reading ∷ []
-unfolding readings-of
+unfolding readings-of row
 probed = refl
 
 -- the same bytes under another name
