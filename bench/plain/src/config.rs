@@ -110,23 +110,24 @@ impl Config {
         self.atoms.len() + n <= MAX_ATOMS && self.next as usize + n <= MAX_NEXT as usize
     }
 
-    /// Makes an atom and gives its id, or the limit that is met: 8 before 9.
-    pub(crate) fn make_atom(&mut self, p: u32, a: u32, b: u32) -> Result<u32, u32> {
+    /// Takes the next id for an instance, or gives the limit that is met: 8 before that of its kind.
+    fn take_id(&mut self, has_place: bool, no_place: u32) -> Result<u32, u32> {
         let id = self.next;
         if id == MAX_NEXT {
             return Err(refusal::NO_ID);
         }
-        if self.atoms.len() >= MAX_ATOMS {
-            return Err(refusal::NO_ATOM_PLACE);
+        if !has_place {
+            return Err(no_place);
         }
-        self.atoms.push(Atom {
-            id,
-            p,
-            a,
-            b,
-            cycle: self.cycle,
-        });
         self.next += 1;
+        Ok(id)
+    }
+
+    /// Makes an atom and gives its id, or the limit that is met: 8 before 9.
+    pub(crate) fn make_atom(&mut self, p: u32, a: u32, b: u32) -> Result<u32, u32> {
+        let id = self.take_id(self.atoms.len() < MAX_ATOMS, refusal::NO_ATOM_PLACE)?;
+        let cycle = self.cycle;
+        self.atoms.push(Atom { id, p, a, b, cycle });
         Ok(id)
     }
 
@@ -139,13 +140,7 @@ impl Config {
         justifications: [u32; 4],
         values: Values,
     ) -> Result<u32, u32> {
-        let id = self.next;
-        if id == MAX_NEXT {
-            return Err(refusal::NO_ID);
-        }
-        if self.plans.len() >= MAX_PLANS {
-            return Err(refusal::NO_PLAN_PLACE);
-        }
+        let id = self.take_id(self.plans.len() < MAX_PLANS, refusal::NO_PLAN_PLACE)?;
         self.plans.push(Plan {
             id,
             set,
@@ -156,7 +151,6 @@ impl Config {
             justifications,
             values,
         });
-        self.next += 1;
         Ok(id)
     }
 }

@@ -30,18 +30,6 @@ fn in_exec(body: &str, left: u32, flags: u32) -> Host {
     )
 }
 
-fn executed(how: How) -> Did {
-    Did::Executed { plan: 2, how }
-}
-
-fn fired(made: Option<Made>) -> Did {
-    Did::Fired {
-        set: 1,
-        rule: 1,
-        made,
-    }
-}
-
 /// The first step after a sense of nothing: what it did, made and gone.
 fn first_step(rows: &str) -> (Host, Did, u32, u32) {
     let mut host = Host::new(rows);
@@ -147,7 +135,7 @@ fn limits_are_no_part_of_a_match() {
         Err(8)
     );
     let mut host = Host::with(OBJ, config(atoms_from(1, 2), plans(63), 1, 66));
-    assert_eq!(host.step().unwrap().did, fired(Some(Made::Plan(66))));
+    assert_eq!(host.step().unwrap().did, fired(1, Some(Made::Plan(66))));
     // exec steps meet them too
     for (body, next, number) in [
         ("1 1 3 34 -9 5 0 0", 258, 9),
@@ -174,7 +162,7 @@ fn limits_are_tested_as_they_are_met() {
     let step = host.step().unwrap();
     assert_eq!(
         (step.did, step.made, step.gone),
-        (fired(Some(Made::Atom(257))), 1, 1)
+        (fired(1, Some(Made::Atom(257))), 1, 1)
     );
     let twice = always("1 1 3 22 1 0 0 0 | 1 1 3 21 -9 1 0 0 | 1 1 3 21 -9 1 0 0");
     assert_eq!(Host::with(&twice, full()).step(), Err(9));
@@ -195,11 +183,11 @@ fn what_a_firing_reports() {
     let (host, did, made, gone) = first_step(&always(
         "1 1 3 21 -1 1 0 0 | 1 1 3 21 -2 1 0 0 | 1 1 3 22 -2 0 0 0 | 1 1 3 25 9 0 0 0 | 1 1 3 21 -3 1 0 0",
     ));
-    assert_eq!((did, made, gone), (fired(Some(Made::Atom(2))), 2, 1));
+    assert_eq!((did, made, gone), (fired(1, Some(Made::Atom(2))), 2, 1));
     assert_eq!(host.alive(), [1]);
     // 48: a rule whose first action stops has fired, and fires again
     let (mut host, did, ..) = first_step(&always("1 1 3 22 9 0 0 0"));
-    assert_eq!(did, fired(None));
+    assert_eq!(did, fired(1, None));
     assert_eq!(
         host.run(7),
         Ok(Run {
@@ -211,10 +199,10 @@ fn what_a_firing_reports() {
     );
     // 49: a constant id is taken as it is
     let (_, did, _, gone) = first_step(&rows(&[ATOM, &always("1 1 3 22 1 0 0 0")]));
-    assert_eq!((did, gone), (fired(None), 1));
+    assert_eq!((did, gone), (fired(1, None), 1));
     for action in ["1 1 3 25 1 0 0 0", "1 1 3 23 1 0 2 0 | 1 1 3 22 1 0 0 0"] {
         let (host, did, _, gone) = first_step(&rows(&[ATOM, &always(action)]));
-        assert_eq!((did, gone, host.alive()), (fired(None), 0, vec![1]));
+        assert_eq!((did, gone, host.alive()), (fired(1, None), 0, vec![1]));
     }
 }
 
@@ -560,7 +548,7 @@ fn cycles_of_atoms() {
 #[test]
 fn what_a_new_plan_is() {
     let (host, did, made, gone) = first_step(&rows(&["0 0 0 41 0 1 7 8", OBJ, EXTERNAL, EXTERNAL]));
-    assert_eq!((did, made, gone), (fired(Some(Made::Plan(2))), 1, 0));
+    assert_eq!((did, made, gone), (fired(1, Some(Made::Plan(2))), 1, 0));
     assert_eq!(
         host.plan(2),
         &Plan {

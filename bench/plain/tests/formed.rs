@@ -72,23 +72,24 @@ fn limits() {
     };
     tells(OBJ, config(atoms_from(1, 1), plans(64), 0, 66), 12);
     tells(OBJ, config(atoms_from(1, 1), plans(65), 0, 67), 1);
-    for (phase, cycle, next, number) in [
-        (3, 0, 1, 12),
-        (4, 0, 1, 1),
-        (0, 65_535, 1, 12),
-        (0, 65_536, 1, 1),
-        (0, 0, 0, 1),
-        (0, 0, 65_536, 12),
-        (0, 0, 65_537, 1),
+    let scalars = |phase, cycle, next| Config {
+        cycle,
+        ..config(vec![], vec![], phase, next)
+    };
+    for formed in [
+        scalars(3, 0, 1),
+        scalars(0, 65_535, 1),
+        scalars(0, 0, 65_536),
     ] {
-        tells(
-            RULES,
-            Config {
-                cycle,
-                ..config(vec![], vec![], phase, next)
-            },
-            number,
-        );
+        tells(RULES, formed, 12);
+    }
+    for broken in [
+        scalars(4, 0, 1),
+        scalars(0, 65_536, 1),
+        scalars(0, 0, 0),
+        scalars(0, 0, 65_537),
+    ] {
+        tells(RULES, broken, 1);
     }
     // 26: at most as many steps are left as the body has
     beside(with_left(0), 12);

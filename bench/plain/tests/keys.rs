@@ -3,7 +3,7 @@
 mod common;
 
 use common::*;
-use plain::{Did, How, Made, Stop};
+use plain::{How, Made, Stop};
 
 fn after_printed_run() -> Host {
     let mut host = Host::new(PRINTED);
@@ -80,16 +80,7 @@ fn step_35_on_the_own_justification_takes_both() {
     host.run(4).unwrap();
     assert_eq!(host.alive(), [1, 2]);
     let step = host.step().unwrap();
-    assert_eq!(
-        (step.did, step.gone),
-        (
-            Did::Executed {
-                plan: 2,
-                how: How::Done
-            },
-            2
-        )
-    );
+    assert_eq!((step.did, step.gone), (executed(How::Done), 2));
     assert!(host.alive().is_empty());
 }
 
@@ -97,14 +88,7 @@ fn step_35_on_the_own_justification_takes_both() {
 fn two_reasons_matching_one_atom_are_one_justification() {
     let mut host = Host::new("1 1 1 1 -1 1 -9 -9 | 1 1 1 1 -2 1 -9 -9");
     host.sense(&[[1, 1, 7, 0]]).unwrap();
-    assert_eq!(
-        host.step().unwrap().did,
-        Did::Fired {
-            set: 1,
-            rule: 1,
-            made: Some(Made::Plan(2))
-        }
-    );
+    assert_eq!(host.step().unwrap().did, fired(1, Some(Made::Plan(2))));
     assert_eq!(host.justifications(), [[1]]);
 }
 

@@ -173,14 +173,7 @@ fn a_negation_holds_of_an_id_that_is_no_plans() {
     let mut host =
         Host::new("0 0 0 41 0 5 0 0 | 1 1 2 12 99 0 2 0 | 1 1 2 12 1 0 2 0 | 1 1 3 21 -9 1 0 0");
     host.sense(&[]).unwrap();
-    assert_eq!(
-        host.step().unwrap().did,
-        Did::Fired {
-            set: 1,
-            rule: 1,
-            made: Some(Made::Atom(2))
-        }
-    );
+    assert_eq!(host.step().unwrap().did, fired(1, Some(Made::Atom(2))));
 }
 
 #[test]
@@ -190,22 +183,8 @@ fn the_first_rule_that_has_a_match_fires() {
         "1 1 1 1 -1 9 -9 -9 | 1 2 1 1 -1 1 -9 -9 | 1 3 1 1 -1 1 -9 -9",
     ]));
     host.sense(&[]).unwrap();
-    assert_eq!(
-        host.step().unwrap().did,
-        Did::Fired {
-            set: 1,
-            rule: 2,
-            made: Some(Made::Plan(2))
-        }
-    );
-    assert_eq!(
-        host.step().unwrap().did,
-        Did::Fired {
-            set: 1,
-            rule: 3,
-            made: Some(Made::Plan(3))
-        }
-    );
+    assert_eq!(host.step().unwrap().did, fired(2, Some(Made::Plan(2))));
+    assert_eq!(host.step().unwrap().did, fired(3, Some(Made::Plan(3))));
     assert_eq!(host.step().unwrap().did, Did::Moved);
 }
 

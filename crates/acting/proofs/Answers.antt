@@ -55,12 +55,28 @@ module _ (words : List ℕ) (s : Scalars) (r : Progress) where
 
 -- NO LIMIT IS MET
 -- room for n more atoms
-abbrev RoomFor : ℕ → Log → Type 0
+abbrev pub RoomFor : ℕ → Log → Type 0
 RoomFor n L = (L .config .next + n ≤ last-next) × (length (L .config .atoms) + n ≤ most-atoms)
 
-abbrev Accepts : Outcome → Type 0
+abbrev pub Accepts : Outcome → Type 0
 Accepts (refused n) = ⊥
 Accepts (accepted L) = Unit {0}
+
+module _ (n : ℕ) (L : Log) where
+  -- a deletion takes no room
+  pub room-kept : (k : ℕ) → RoomFor n L → RoomFor n (emit-deletion k L)
+  room-kept k h = let l = count-keep (λ (x : Atom). survives (reached (links-in (L .config)) k) (x .id)) (L .config .atoms) in (h .0, omega (arith, h .1))
+
+  module _ (h : RoomFor (n + 1) L) where
+    -- one more atom takes one place
+    pub room-taken : (p a b : ℕ) → RoomFor n (emit-atom p a b L)
+    room-taken p a b = (omega (arith, h .0), let l = length-append (L .config .atoms) (new-atom (L .config) p a b ∷ []) in omega (arith, h .1))
+
+    pub no-bar : atom-bar (L .config .next) (length (L .config .atoms)) ≡ 0
+    no-bar = rw (ne-eqb (L .config .next) last-next (omega (arith, h .0)), lt-leb most-atoms (length (L .config .atoms)) (omega (arith, h .1)))
+
+    pub room-left : RoomFor n L
+    room-left = (omega (arith, h .0), omega (arith, h .1))
 
 -- an action that meets no limit and makes one atom at most
 abbrev Goes : ℕ → Action → Type 0
@@ -71,23 +87,20 @@ Goes n (barred m) = ⊥
 module _ (s t : ℕ) (n : ℕ) where
   module _ (r : Row) (v : List ℕ) (L : Log) (h : RoomFor (n + 1) L) where
     goes-deletion : (k : ℕ) → Goes n (acted v (emit-deletion k L))
-    goes-deletion k = let l = count-keep (λ (x : Atom). survives (reached (links-in (L .config)) k) (x .id)) (L .config .atoms) in (omega (arith, h .0), omega (arith, h .1))
+    goes-deletion k = room-kept n L k (room-left n L h)
 
     goes-add : Goes n (add-action s t r v L)
     unfolding add-action acted-on
-    goes-add = rw (atom-free L (accepted made) no-bar) (omega (arith, h .0), let l = length-append (L .config .atoms) (new-atom (L .config) (r .p) (operand v (r .a)) (operand v (r .b)) ∷ []) in omega (arith, h .1))
+    goes-add = rw (atom-free L (accepted made) (no-bar n L h)) (room-taken n L h (r .p) (operand v (r .a)) (operand v (r .b)))
       where
         made : Log
         made = report (fired s t (an-atom (L .config .next))) (emit-atom (r .p) (operand v (r .a)) (operand v (r .b)) L)
-
-        no-bar : atom-bar (L .config .next) (length (L .config .atoms)) ≡ 0
-        no-bar = rw (ne-eqb (L .config .next) last-next (omega (arith, h .0)), lt-leb most-atoms (length (L .config .atoms)) (omega (arith, h .1)))
 
     goes-on : Goes n (act s t r v L)
     unfolding act
     goes-on =
         let k = operand v (r .i) in
-        let still : RoomFor n L = (omega (arith, h .0), omega (arith, h .1)) in
+        let still = room-left n L h in
         if-either (Goes n) (eqb (r .op) 21) goes-add
         (if-either (Goes n) (eqb (r .op) 22) (if-either (Goes n) (atom-alive (L .config) k) (goes-deletion k) tt)
         (if-either (Goes n) (not (plan-alive (L .config) k)) tt

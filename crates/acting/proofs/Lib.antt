@@ -1,5 +1,4 @@
 pub mod Operands
-pub mod Copied
 pub mod Actions
 pub mod Workable
 pub mod Running

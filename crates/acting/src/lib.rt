@@ -213,18 +213,6 @@ fn act_all(
     }
 }
 
-// All words of one slice into another.
-fn copy_words<'a>(from: &'a [u32], to: &'a mut [u32])
-    requires { ⌜ (length (now from) ≡ 2432) × (length (now to) ≡ 2432) ⌝ }
-    ensures { λ _. ⌜ now (to .exit) ≡ now (from .entry) ⌝ }
-{
-    let mut i: usize = 0;
-    while i < 2432 {
-        to[i] = from[i];
-        i += 1;
-    }
-}
-
 // A meta rule fires. "a refused call undoes its earlier part": the words are saved, and put back if an action meets a limit. None can
 // where eight more atoms could be made, since a body has eight rows at most.
 pub fn fire_meta(
@@ -242,10 +230,10 @@ pub fn fire_meta(
         return act_all(program, words, scalars, rule, values);
     }
     let mut saved = [0u32; 2432];
-    copy_words(words, &mut saved);
+    slices::copy(words, &mut saved);
     let r = act_all(program, words, scalars, rule, values);
     if r.number != 0 {
-        copy_words(&saved, words);
+        slices::copy(&saved, words);
     }
     r
 }

@@ -12,8 +12,7 @@ use lib.Seq.{getD-set-same, getD-set-other}
 use borrow.Author.Tests.{eq-eqb, ne-eqb, ltb-true, ltb-false, leb-false}
 use Rattle.lists.specs.Lists.{In, first, later, member, if_then_else_}
 use Rattle.lists.specs.Tables.{index-of}
-use Rattle.lists.proofs.Lists.{test, in-cons, in-one, in-map, in-cast, out-member, member-in, map-append, map-in}
-use Rattle.lists.proofs.Tests.{or-cases}
+use Rattle.lists.proofs.Lists.{test, in-cons, in-one, in-map, in-cast, out-member, member-in, map-append, map-in, or-cases}
 use Rattle.lists.proofs.Tables.{equal-or-not, get-in, in-get, keys-differ, tabulate-at, tabulate-length}
 use Rattle.model.specs.Graph.{Node, reached, survives, loses-subgoal}
 use Rattle.model.specs.declared.Atom.{Atom}

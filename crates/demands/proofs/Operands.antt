@@ -9,8 +9,8 @@ use lib.Dec.{leb}
 use lib.ListN.{length, getD, drop, replicate}
 use borrow.Author.Tests.{eqb-false, ne-eqb, leb-false, le-leb, not-true}
 use Rattle.lists.specs.Lists.{In, first, later, if_then_else_}
-use Rattle.lists.proofs.Lists.{test, in-nil, in-cons}
-use Rattle.lists.proofs.Tests.{and2, or-cases, or-left, or-right, false-not}
+use Rattle.lists.proofs.Lists.{test, in-nil, in-cons, or-cases, or-right}
+use Rattle.lists.proofs.Tests.{and2, or-left, false-not}
 use Rattle.model.specs.declared.Row.{Row}
 use Rattle.model.specs.Program.{any?, variable?, constant?, constant, body}
 use Rattle.model.specs.Configuration.{Plan, no-value, no-values, place, value-of, operand, remainder}

@@ -7,7 +7,7 @@ use native.Mathlib.Omega.{arith}
 use lib.Dec.{eqb, leb}
 use borrow.Author.Tests.{eqb-true, ne-eqb, leb-true}
 use Rattle.lists.specs.Lists.{within}
-use Rattle.lists.proofs.Tests.{or-cases}
+use Rattle.lists.proofs.Lists.{or-cases}
 use Rattle.program_laws.proofs.Tests.{parts}
 use Rattle.model.specs.Program.{unused?, flag?}
 use Rattle.model.specs.declared.Row.{Row}

@@ -8,7 +8,8 @@ use lib.Dec.{leb, eqb}
 use lib.ListN.{length}
 use borrow.Author.Tests.{eqb-true, eq-eqb, leb-true, le-leb}
 use Rattle.lists.specs.Lists.{In, first, some, first-of}
-use Rattle.lists.proofs.Tests.{and2, or-cases, or-left, or-right, every-all, all-every}
+use Rattle.lists.proofs.Lists.{or-cases, or-right}
+use Rattle.lists.proofs.Tests.{and2, or-left, every-all, all-every}
 use Rattle.lists.proofs.Some.{some-in, in-some, first-in}
 use Rattle.model.specs.declared.Row.{Row}
 use Rattle.model.specs.declared.Atom.{Atom}

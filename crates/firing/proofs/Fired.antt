@@ -17,6 +17,7 @@ use Rattle.program.specs.Rows.{row-at, rows-of}
 use Rattle.demands.proofs.Fire.{firing-matches, fits}
 use Rattle.state.specs.declared.Scalars.{Scalars}
 use Rattle.state.specs.View.{config-of, phase-put}
+use Rattle.state.proofs.Live.{sound-atoms-rise, sound-plans-rise}
 use Rattle.queries.specs.View.{found-of, Limits}
 use Rattle.matching.specs.declared.Choice.{Choice}
 use Rattle.matching.specs.Rules.{rows-between, choice-of, Chosen}
@@ -29,7 +30,9 @@ use Rattle.acting.specs.Actions.{Fires, meta-work}
 
 -- the queries can work on a well-formed configuration
 pub well-limits : (program words : List ℕ) (s : Scalars) → WellWords program words s → Limits words s
-well-limits program words s w = let h = whole program words s w in record { long = h .long; atoms = h .few-atoms; plans = h .few-plans; flags = flags-fit program words s w }
+well-limits program words s w =
+    let h = whole program words s w in
+    record { long = h .long; atoms = h .few-atoms; plans = h .few-plans; flags = flags-fit program words s w; atoms-rise = sound-atoms-rise words s (h .sound); plans-rise = sound-plans-rise words s (h .sound) }
 
 module _ (program words : List ℕ) (s : Scalars) (x : Choice) (is : choice-of x ≡ firing (rows-of program) (config-of words s) (s .phase)) where
   abbrev P : List Row

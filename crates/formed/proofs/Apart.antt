@@ -10,8 +10,8 @@ use lib.ListN.{length, getD, set, replicate, length-set, getD-replicate}
 use lib.Seq.{getD-set-same, getD-set-other}
 use borrow.Author.Tests.{eqb-false, eq-eqb, ne-eqb}
 use Rattle.lists.specs.Tables.{tabulate, index-of}
-use Rattle.lists.proofs.Lists.{test, clash, in-cast, in-member, pairs-map}
-use Rattle.lists.proofs.Tests.{or-left, or-right, false-not}
+use Rattle.lists.proofs.Lists.{test, clash, in-cast, in-member, pairs-map, or-right}
+use Rattle.lists.proofs.Tests.{or-left, false-not}
 use Rattle.lists.proofs.Tables.{equal-or-not, get-in, tabulate-length, tabulate-at, tabulate-map, index-found, index-at}
 use Rattle.lists.proofs.Counted.{in-pairs-places, in-pairs-fails}
 use Rattle.model.specs.declared.Atom.{Atom}

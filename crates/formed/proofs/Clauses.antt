@@ -9,8 +9,8 @@ use lib.Dec.{leb, ltb, eqb}
 use lib.ListN.{length}
 use borrow.Author.Tests.{eqb-true, leb-true, le-leb}
 use Rattle.lists.specs.Lists.{In, Pairs, every, rises, member}
-use Rattle.lists.proofs.Lists.{in-cast, in-map, map-in, map-map, all-map, out-member}
-use Rattle.lists.proofs.Tests.{and2, or-cases, every-all, all-every, rises-pairs, pairs-rises, map-pairs}
+use Rattle.lists.proofs.Lists.{in-cast, in-map, map-in, map-map, all-map, out-member, or-cases}
+use Rattle.lists.proofs.Tests.{and2, every-all, all-every, rises-pairs, pairs-rises, map-pairs}
 use Rattle.lists.proofs.Tables.{tabulate-length, tabulate-at, get-in}
 use Rattle.lists.proofs.Counted.{same-truth}
 use Rattle.model.specs.declared.Row.{Row}

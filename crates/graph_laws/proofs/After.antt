@@ -24,19 +24,10 @@ pub after-done : (P : Log → Type 0) (L : Log) → P L → After P (accepted L)
 unfolding After
 after-done P L h = h
 
-pub after-refused : (P : Log → Type 0) (n : ℕ) → After P (refused n)
-unfolding After
-after-refused P n = tt
-
 pub after-map : (P Q : Log → Type 0) (o : Outcome) → ((L : Log) → P L → Q L) → After P o → After Q o
 unfolding After
 after-map P Q (refused n) f h = tt
 after-map P Q (accepted L) f h = f L h
-
-pub after-both : (P Q : Log → Type 0) (o : Outcome) → After P o → After Q o → After (λ (L : Log). P L × Q L) o
-unfolding After
-after-both P Q (refused n) h k = tt
-after-both P Q (accepted L) h k = (h, k)
 
 -- and so of the log of a work that was accepted
 pub after-of : (P : Log → Type 0) {o : Outcome} {L : Log} → After P o → o ≡ accepted L → P L

@@ -8,8 +8,8 @@ use lib.Dec.{eqb, leb, ltb}
 use lib.ListN.{length}
 use borrow.Author.Tests.{eqb-true, eqb-false, eq-eqb, ne-eqb, leb-true, le-leb, ltb-true, lt-ltb, not-true}
 use Rattle.lists.specs.Lists.{In, Pairs, member}
-use Rattle.lists.proofs.Lists.{test, in-cast, member-in, in-member, out-member, member-out, pairs-either, pairs-map}
-use Rattle.lists.proofs.Tests.{and2, or-cases, or-left, or-right, false-not, every-all, all-every, tests-pairs, pairs-tests, rises-pairs, pairs-rises, map-pairs}
+use Rattle.lists.proofs.Lists.{test, in-cast, member-in, in-member, out-member, member-out, pairs-either, pairs-map, or-cases, or-right}
+use Rattle.lists.proofs.Tests.{and2, or-left, false-not, every-all, all-every, tests-pairs, pairs-tests, rises-pairs, pairs-rises, map-pairs}
 use Rattle.model.specs.Graph.{Node, Graph, node-ids, Sound}
 use Rattle.model.specs.WellFormed.{node-formed, graph-formed}
 

@@ -1,8 +1,2 @@
-pub mod Outcomes
-pub mod Deleted
-pub mod Answered
-pub mod Sensed
-pub mod Waiting
-pub mod Stepped
-pub mod Ran
+pub mod Replies
 pub mod DemandThree

@@ -146,15 +146,16 @@ pub map-map : {A B C : Type 0} (f : A → B) (g : B → C) (l : List A) → map 
 map-map f g [] = refl
 map-map {C = C} f g (x ∷ l) = ap {B = List C} (λ r. g (f x) ∷ r) (map-map f g l)
 
--- membership as a test
-or-cases : (a b : Bool) → (a || b) ≡ true → (a ≡ true) ⊎ (b ≡ true)
+-- tests joined
+pub or-cases : (a b : Bool) → (a || b) ≡ true → (a ≡ true) ⊎ (b ≡ true)
 or-cases true b e = inl refl
 or-cases false b e = inr e
 
-or-right : (a : Bool) {b : Bool} → b ≡ true → (a || b) ≡ true
+pub or-right : (a : Bool) {b : Bool} → b ≡ true → (a || b) ≡ true
 or-right true e = refl
 or-right false e = e
 
+-- membership as a test
 pub member-in : (x : ℕ) (l : List ℕ) → member x l ≡ true → In x l
 member-in x [] e = absurd (false≢true e)
 member-in x (y ∷ l) e = ⊎-elim (λ p. first (eqb-true x y p)) (λ p. later (member-in x l p)) (or-cases (eqb x y) (member x l) e)

@@ -4,8 +4,8 @@ use mathlib.Core.Bool.{Bool, true, false≢true}
 use mathlib.Core.Logic.{⊎-elim}
 use mathlib.Core.List.{List, [], _∷_}
 use Rattle.lists.specs.Lists.{In, first, later, some, first-of}
-use Rattle.lists.proofs.Lists.{in-nil, in-one}
-use Rattle.lists.proofs.Tests.{or-cases, or-left, or-right}
+use Rattle.lists.proofs.Lists.{in-nil, in-one, or-cases, or-right}
+use Rattle.lists.proofs.Tests.{or-left}
 
 module _ {A : Type 0} where
   pub some-in : (f : A → Bool) (l : List A) → some f l ≡ true → (x : A) × In x l × (f x ≡ true)

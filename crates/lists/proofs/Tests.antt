@@ -1,7 +1,7 @@
 -- Tests that compute, and what they say: every element, every pair, a rising list, numbers in turn.
 use mathlib.Core.Path.{_≡_, refl, ap, _∙_}
 use mathlib.Core.Bool.{Bool, true, false, not, _&&_, _||_, and-eq-true-iff, false≢true}
-use mathlib.Core.Logic.{_⊎_, inl, inr, ⊎-elim, _↔_}
+use mathlib.Core.Logic.{⊎-elim}
 use mathlib.Core.List.{List, [], _∷_, _++_, map}
 use Prim.Native.Nat.{ℕ, zero, suc, _+_, _≤_, _<_}
 use native.Mathlib.Omega.{arith}
@@ -15,17 +15,9 @@ use Rattle.lists.proofs.Lists.{in-nil, in-cons, in-map}
 pub and2 : {a b : Bool} → a ≡ true → b ≡ true → (a && b) ≡ true
 and2 {a} {b} p q = and-eq-true-iff a b .1 (p, q)
 
-pub or-cases : (a b : Bool) → (a || b) ≡ true → (a ≡ true) ⊎ (b ≡ true)
-or-cases true b e = inl refl
-or-cases false b e = inr e
-
 pub or-left : {a : Bool} (b : Bool) → a ≡ true → (a || b) ≡ true
 or-left {a = true} b e = refl
 or-left {a = false} b e = absurd (false≢true e)
-
-pub or-right : (a : Bool) {b : Bool} → b ≡ true → (a || b) ≡ true
-or-right true e = refl
-or-right false e = e
 
 pub false-not : (b : Bool) → b ≡ false → not b ≡ true
 false-not b e = rw e
@@ -76,9 +68,6 @@ unfolding rises
 pairs-rises [] h = refl
 pairs-rises (x ∷ []) h = refl
 pairs-rises (x ∷ y ∷ l) h = and2 (lt-ltb x y (h .0 y (first refl))) (pairs-rises (y ∷ l) (h .1))
-
-pub rises-is : (l : List ℕ) → (rises l ≡ true) ↔ Pairs (λ (x y : ℕ). x < y) l
-rises-is l = (rises-pairs l, pairs-rises l)
 
 -- a relation of the images along a list, from the relation along the images
 pub map-pairs : {A B : Type 0} (R : B → B → Type 0) (f : A → B) (l : List A) → Pairs R (map f l) → Pairs (λ x y. R (f x) (f y)) l

@@ -1,6 +1,6 @@
 -- The rules of a set in rising number: where the rows of each stand, and what those from a number on fire.
 use mathlib.Core.Path.{_≡_, refl, sym, ap, _∙_}
-use mathlib.Core.Bool.{Bool, true, false, _&&_, _||_, and-eq-true-iff}
+use mathlib.Core.Bool.{Bool, true, false, _&&_, _||_, and-eq-true-iff, and-false}
 use mathlib.Core.Logic.{_⊎_, inl, inr, ⊎-elim, _≢_}
 use mathlib.Core.List.{List, [], _++_, map}
 use Prim.Native.Nat.{ℕ, _+_, _-_, _/_, _≤_, _<_}
@@ -100,12 +100,8 @@ up-to-rule m p n h = ⊎-elim
 from-rule : (m p n : ℕ) → (1 ≤ p) ⊎ (m ≡ 0) → (ltb m (n + 1) || (eqb m (n + 1) && ltb p 1)) ≡ ltb m (n + 1)
 from-rule m p n h = ⊎-elim (λ e. rw e)
     (λ e. let g = ltb-false m (n + 1) e in rw e
-    (⊎-elim (λ (k : 1 ≤ p). rw (le-ltb p 1 k) (and-off (eqb m (n + 1)))) (λ (k : m ≡ 0). absurd (omega arith)) h))
+    (⊎-elim (λ (k : 1 ≤ p). rw (le-ltb p 1 k) (and-false (eqb m (n + 1)))) (λ (k : m ≡ 0). absurd (omega arith)) h))
     (test (ltb m (n + 1)))
-  where
-    and-off : (b : Bool) → (b && false) ≡ false
-    and-off true = refl
-    and-off false = refl
 
 module _ (program : List ℕ) (w : Lawful (rows-of program)) where
   -- what holds of the parts of every row

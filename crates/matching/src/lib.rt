@@ -230,7 +230,6 @@ pub fn search<'a>(
     }
     let r = program::row_at(program, k);
     let values = f.values;
-    let once = queries::closes(r, values);
     let mut c: usize = 0;
     loop {
         let x = queries::next_answer(words, s, r, c, f);
@@ -245,7 +244,7 @@ pub fn search<'a>(
         if m.found {
             return m;
         }
-        if once {
+        if queries::closes(r, values) {
             return Match {
                 bindings: f,
                 found: false,

@@ -35,7 +35,9 @@ use Rattle.running.specs.Running.{stop-of}
 use Rattle.interpreter.specs.declared.Reply.{Reply}
 use Rattle.interpreter.specs.declared.RunReply.{RunReply}
 use Rattle.printed_run.specs.Printed.{reading, run-text}
-use Rattle.interpreter.specs.Calls.{conf, reported, no-row, given-rows, readings-of, run-reported}
+use Rattle.in_place.specs.Given.{no-row, given-rows, readings-of}
+use Rattle.in_place.specs.Changes.{run-left-by}
+use Rattle.interpreter.specs.Calls.{conf, reported, run-reported}
 
 abbrev pub probe : List ℕ
 probe = 1 ∷ 1 ∷ 3 ∷ 1200 ∷ []
@@ -130,12 +132,12 @@ module _ (program : List ℕ) (rows : List Row) (p : given-rows program ≡ rows
   result = record { config = conf (r .config); steps = r .steps; made = r .made; gone = r .gone; stop = stop-of (r .stop) }
 
   pub run-stopped : r .number ≢ 0 → after-run (run rows c 10) ≡ refusal (r .number)
-  unfolding run-reported after-run
+  unfolding run-left-by after-run
   run-stopped z = sym (ap after-run ran-as) ∙ ap (λ (b : Bool). after-run (if b then ran result else run-refused (r .number))) (ne-eqb (r .number) 0 z)
 
   module _ (z : r .number ≡ 0) where
     is-ran : run rows c 10 ≡ ran result
-    unfolding run-reported
+    unfolding run-left-by
     is-ran = sym ran-as ∙ ap (λ (b : Bool). if b then ran result else run-refused (r .number)) (eq-eqb (r .number) 0 z)
 
     pub run-listed : after-run (run rows c 10) ≡ listing (conf (r .config))

@@ -9,7 +9,8 @@ ghost use Rattle.model.specs.Configuration.{fresh};
 ghost use Rattle.model.specs.WellFormed.{given-well};
 ghost use Rattle.model.specs.Run.{listing as listing-of, keyrun};
 ghost use Rattle.program.specs.Rows.{rows-of};
-ghost use Rattle.interpreter.specs.Calls.{conf, given-rows};
+ghost use Rattle.in_place.specs.Given.{given-rows};
+ghost use Rattle.interpreter.specs.Calls.{conf};
 ghost use Rattle.printed_run.specs.Printed.{run-text};
 
 // The listing of a configuration that is well formed with its program.

@@ -12,7 +12,7 @@ use Rattle.model.specs.declared.Scan.{Scan}
 use Rattle.model.specs.Load.{at-first, take-row, passed, lacking, finish, go-on, loaded, refused}
 use Rattle.model.specs.Render.{in-range, take-rows, is-loaded, well-formed}
 use Rattle.program_laws.proofs.Range.{in-range-of}
-use Rattle.rows.specs.Scanning.{Small, verdict-of}
+use Rattle.rows.specs.Scanning.{whole as scanned, Small, verdict-of}
 use Rattle.rows.specs.declared.Verdict.{Verdict}
 use Rattle.rows.proofs.Scans.{small-first, passed-counts}
 use Rattle.program.specs.Rows.{row-at, rows-from, rows-of, program-formed}
@@ -67,21 +67,21 @@ module _ {words : List ℕ} {s : Scan} {k : ℕ} (w : Checking words s k) where
     pub outside : {b : Bool} → b ≡ in-range r → not b ≡ true → false ≡ program-formed words
     outside {b} q z = left (one-row ∙ rw (sym q ∙ not-true b z))
 
-    module _ (v : Verdict) (f : verdict-of v ≡ take-row s r) where
+    module _ (v : Verdict) (D : List ℕ) (f : verdict-of v D ≡ take-row s r) where
       pub row-refused : (v .number ≡ 0 → ⊥) → false ≡ program-formed words
       unfolding verdict-of go-on is-loaded
       row-refused z = left (one-row ∙ rw (← f, ne-eqb (v .number) 0 z, and-false))
 
-      taken-row : v .number ≡ 0 → take-row s r ≡ passed (v .scan)
+      taken-row : v .number ≡ 0 → take-row s r ≡ passed (scanned (v .scan) D)
       unfolding verdict-of
       taken-row z = sym f ∙ rw z
 
-      pub row-checked : {b : Bool} → b ≡ in-range r → not b ≡ false → v .number ≡ 0 → Checking words (v .scan) (k + 1)
+      pub row-checked : {b : Bool} → b ≡ in-range r → not b ≡ false → v .number ≡ 0 → Checking words (scanned (v .scan) D) (k + 1)
       unfolding go-on
       row-checked {b} q y z = record {
         whole = w .whole;
         inside = omega arith;
-        small = passed-counts r (v .scan) (w .small) (taken-row z) .small;
+        small = passed-counts r (scanned (v .scan) D) (w .small) (taken-row z) .small;
         passed-rows = w .passed-rows ++ (r ∷ []);
         so-far = w .so-far ∙ one-row ∙ rw (sym q ∙ not-false b y, taken-row z);
       }

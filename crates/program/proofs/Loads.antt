@@ -21,7 +21,7 @@ use Rattle.program_laws.proofs.WellFormed.{RowInRange, line-in-range}
 use Rattle.text.specs.Reading.{Ends, line-of, as-line}
 use Rattle.text.specs.declared.Line.the-variants.{Whole, Unread}
 use Rattle.text.proofs.Ends.{lines-end}
-use Rattle.rows.specs.Scanning.{Small, verdict-of}
+use Rattle.rows.specs.Scanning.{whole as scanned, Small, verdict-of}
 use Rattle.rows.specs.declared.Verdict.{Verdict}
 use Rattle.rows.proofs.Scans.{small-first, passed-counts}
 use Rattle.program.specs.declared.Loaded.{Loaded}
@@ -47,7 +47,7 @@ module _ (text : List ℕ) {first : ℕ} (w : Ends text 0 first) where
       go true t = let e = eqb-true (length text) 0 t in rw (lines-end text 0 (omega arith))
       go false t = let e : length text ≢ 0 = eqb-false (length text) 0 t in rw (w .no-end h (omega arith))
 
-  names-first : first < length text → load text ≡ (if same (take first text) names then load-lines at-first [] (lines (drop (first + 1) text)) else refused 2 1)
+  pub names-first : first < length text → load text ≡ (if same (take first text) names then load-lines at-first [] (lines (drop (first + 1) text)) else refused 2 1)
   unfolding load from-names
   names-first h = let e : first - 0 ≡ first = omega arith in rw (w .ended h, e)
 
@@ -119,22 +119,22 @@ module _ {text lent words : List ℕ} {s : Scan} {at : ℕ} (w : Loading text le
         unfolding load-lines take-line
         at-row = w .so-far ∙ rw (c .ended k, the-row)
 
-        module _ (v : Verdict) (f : verdict-of v ≡ take-row s row) where
+        module _ (v : Verdict) (D : List ℕ) (f : verdict-of v D ≡ take-row s row) where
           pub row-refused : (v .number ≡ 0 → ⊥) → Refuses text (v .number) (v .line)
           unfolding verdict-of go-on
           row-refused z = record { is = at-row ∙ rw (← f, ne-eqb (v .number) 0 z) }
 
-          passes-on : v .number ≡ 0 → take-row s row ≡ passed (v .scan)
+          passes-on : v .number ≡ 0 → take-row s row ≡ passed (scanned (v .scan) D)
           unfolding verdict-of
           passes-on z = sym f ∙ rw z
 
           pub row-room : v .number ≡ 0 → s .count ≤ 511
-          row-room z = passed-counts row (v .scan) (w .small) (passes-on z) .room
+          row-room z = passed-counts row (scanned (v .scan) D) (w .small) (passes-on z) .room
 
-          pub row-taken : {new : List ℕ} → v .number ≡ 0 → new ≡ placed 8 words (s .count) (row-words row) → Loading text lent new (v .scan) (end + 1)
+          pub row-taken : {new : List ℕ} → v .number ≡ 0 → new ≡ placed 8 words (s .count) (row-words row) → Loading text lent new (scanned (v .scan) D) (end + 1)
           unfolding go-on
           row-taken {new} z y =
-              let p = passed-counts row (v .scan) (w .small) (passes-on z) in
+              let p = passed-counts row (scanned (v .scan) D) (w .small) (passes-on z) in
               let m = p .room in
               let n = w .counted in
               let l = w .long in

@@ -4,15 +4,13 @@ use mathlib.Core.List.{List, [], _∷_, _++_}
 use Prim.Native.Nat.{ℕ, _+_, _-_, _*_, _/_, _≤_, _<_}
 use native.Mathlib.Omega.{arith}
 use native.Mathlib.Nat.{div-mul-le-self}
-use lib.ListN.{length, take, drop, length-map, length-append}
+use lib.ListN.{length, take, drop, length-append}
 use lib.Seq.{take-at, take-all, drop-at, drop-drop}
-use Rattle.lists.specs.Lists.{count-up}
 use Rattle.lists.proofs.Cuts.{count-up-next, count-up-none}
 use Rattle.lists.proofs.Bind.{bind-append}
-use Rattle.lists.proofs.Tests.{length-count-up}
 use Rattle.table.specs.Rows.{placed}
 use Rattle.model.specs.declared.Row.{Row}
-use Rattle.program.specs.Rows.{row-at, rows-from, rows-of, row-words, words-of}
+use Rattle.program.specs.Rows.{row-at, rows-from, row-words, words-of}
 
 module _ (words : List ℕ) where
   pub rows-next : (k n : ℕ) → k < n → rows-from words k (n - k) ≡ row-at words k ∷ rows-from words (k + 1) (n - (k + 1))
@@ -20,10 +18,6 @@ module _ (words : List ℕ) where
 
   pub rows-none : (k n : ℕ) → n ≤ k → rows-from words k (n - k) ≡ []
   rows-none k n h = rw (count-up-none k n h)
-
-  pub length-rows-of : length (rows-of words) ≡ length words / 8
-  unfolding rows-of
-  length-rows-of = length-map (count-up 0 (length words / 8)) (row-at words) ∙ length-count-up 0 (length words / 8)
 
   -- a row that stands there stands in the words
   pub row-inside : (k : ℕ) → k < length words / 8 → k * 8 + 8 ≤ length words

@@ -34,13 +34,14 @@ pub fn well_formed(program: &[u32]) -> bool
     }
     let n = program.len() / 8;
     let mut s = rows::at_first();
+    let mut ceilings = [0u8; 256];
     let mut k: usize = 0;
     while k < n {
         let r = row_at(program, k);
         if !rows::in_range(r) {
             return false;
         }
-        let v = rows::take_row(s, r);
+        let v = rows::take_row(s, &mut ceilings, r);
         if v.number != 0 {
             return false;
         }
@@ -97,6 +98,7 @@ pub fn load(text: &[u8], program: &mut [u32; 4096]) -> Loaded
     }
     let mut words = copied(program);
     let mut s = rows::at_first();
+    let mut ceilings = [0u8; 256];
     let mut at = first + 1;
     while at < text.len() {
         let end = text::newline(text, at);
@@ -106,7 +108,7 @@ pub fn load(text: &[u8], program: &mut [u32; 4096]) -> Loaded
         let Line::Whole(row) = text::read_row(&text[at..end]) else {
             return refused(2, s.count + 2);
         };
-        let v = rows::take_row(s, row);
+        let v = rows::take_row(s, &mut ceilings, row);
         if v.number != 0 {
             return refused(v.number, v.line);
         }

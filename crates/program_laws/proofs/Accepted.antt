@@ -8,14 +8,13 @@ use lib.Dec.{eqb, leb}
 use lib.ListN.{getD}
 use borrow.Author.Tests.{eqb-true, eqb-false, eq-eqb, ne-eqb, leb-true, leb-false, le-leb, ltb-false, not-true, not-false}
 use Rattle.lists.specs.Lists.{if_then_else_}
-use Rattle.lists.proofs.Lists.{test, clash}
+use Rattle.lists.proofs.Lists.{test, clash, or-cases}
 use Rattle.model.specs.declared.Row.{Row}
 use Rattle.model.specs.declared.Scan.{Scan}
 use Rattle.model.specs.Program.{variable?, constant?, constant-within}
 use Rattle.model.specs.Load.{same-rule, part-full, initial, too-many, in-order, set-0-row, atom-row, ceiling-row, query, action, plan-step, begun, rule-row, breaks, new-variable, valueless, taken, fault, take-row, passed, refused-at, lacking}
 use Rattle.program_laws.specs.Lawful.{Uses}
 use Rattle.program_laws.proofs.Tests.{and-left, and-right, and-other, parts, misses}
-use Rattle.lists.proofs.Tests.{or-cases}
 
 -- where the row stands after the last one
 pub data Place (s : Scan) (r : Row) : Type 0 where

@@ -9,23 +9,15 @@ use native.Mathlib.Nat.{pow-suc, add-sub-cancel}
 use lib.ListN.{length}
 use lib.Dec.{leb, ltb, eqb}
 use borrow.Author.Tests.{le-leb, ltb-true, ltb-false, leb-true, leb-false, eqb-true, ne-eqb}
-use Rattle.lists.specs.Lists.{within, same}
+use Rattle.lists.specs.Lists.{same}
 use Rattle.model.specs.declared.Row.{Row}
 use Rattle.model.specs.declared.Scan.{Scan}
-use Rattle.model.specs.Text.{digits, digit?, counting, positive, negative, read-int, number, columns, column, last-column, after, row-of, read-row, in-columns, lines, line, end, onto, names, bytes}
+use Rattle.model.specs.Text.{digits, counting, positive, negative, read-int, number, columns, column, last-column, after, row-of, read-row, in-columns, lines, line, end, onto, names, bytes}
 use Rattle.model.specs.Load.{Loaded, take-row, take-line, Verdict, passed, refused-at, go-on, at-first, load, load-lines, from-names}
 use Rattle.model.specs.Render.{decimal, integer, cells, spaced, lines-of, text-of, take-rows}
-use Rattle.program_laws.proofs.Tests.{within-in, if-either}
+use Rattle.program_laws.proofs.Digits.{digits-on, counting-on}
+use Rattle.lists.proofs.Cuts.{within-in, if-either}
 use Rattle.program_laws.proofs.Range.{InRange, AllInRange}
-
-module _ (n c : ℕ) (cs : List ℕ) where
-  digits-on : digit? c ≡ true → digits n (c ∷ cs) ≡ digits (n * 10 + (c - 48)) cs
-  unfolding digits
-  digits-on e = rw (e, digits)
-
-  counting-on : within 49 57 c ≡ true → counting (c ∷ cs) ≡ digits (c - 48) cs
-  unfolding counting
-  counting-on e = rw e
 
 -- a number's digits, and whatever follows them
 counting-decimal : (f n : ℕ) (cs : List ℕ) → 1 ≤ n → n < 10 ^ f → counting (decimal f n ++ cs) ≡ digits n cs

@@ -9,14 +9,13 @@ use lib.Dec.{eqb}
 use lib.ListN.{length}
 use borrow.Author.Tests.{eqb-true, leb-true, not-true}
 use Rattle.lists.specs.Lists.{In, first, within}
-use Rattle.lists.proofs.Lists.{keep-in}
+use Rattle.lists.proofs.Lists.{keep-in, or-cases}
 use Rattle.model.specs.declared.Row.{Row}
 use Rattle.model.specs.declared.Scan.{Scan}
 use Rattle.model.specs.Program.{any?, variable?, unused?, flag?, constant, part-of, body, reasons, is-object, initial-atoms}
 use Rattle.model.specs.Load.{new-variable, names-atom, names-instance, action, plan-step}
 use Rattle.program_laws.specs.Lawful.{Lawful}
 use Rattle.program_laws.proofs.Tests.{and-left, parts}
-use Rattle.lists.proofs.Tests.{or-cases}
 use Rattle.program_laws.proofs.Range.{InRange, in-range-of}
 use Rattle.program_laws.proofs.Parts.{some-rows}
 
@@ -152,13 +151,6 @@ module _ {program : List Row} (w : Lawful program) where
   pub initial-row : (r : Row) → In r (initial-atoms program) → In r program
   unfolding initial-atoms
   initial-row r i = keep-in (λ (r : Row). eqb (r .set) 0 && eqb (r .op) 41) program i .0
-
-  pub ceiling-predicate : (r : Row) → In r program → r .set ≡ 0 → r .op ≡ 40 → (1 ≤ constant (r .b)) × (constant (r .b) ≤ 255)
-  ceiling-predicate r i e o =
-      let c = w .ceilings r i e o in
-      let low : 10 ≤ r .b = leb-true _ _ (search parts) in
-      let high : r .b ≤ 264 = leb-true _ _ (search parts) in
-      omega arith
 
   -- an object rule has a reason, and is none of set 0
   pub object-reasons : (s n : ℕ) → is-object program s n ≡ true → 1 ≤ length (reasons program s n)

@@ -1,7 +1,7 @@
 -- How many sets a program has.
 use mathlib.Core.Logic.{⊎-elim}
 use mathlib.Core.List.{List, map}
-use Prim.Native.Nat.{ℕ, _≤_}
+use Prim.Native.Nat.{_≤_}
 use native.Mathlib.Omega.{arith}
 use Rattle.lists.proofs.Lists.{map-in}
 use Rattle.lists.proofs.Tables.{equal-or-not}

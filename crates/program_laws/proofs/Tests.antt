@@ -1,17 +1,6 @@
 -- Tests, as facts.
-use Prim.Native.Nat.{ℕ, _≤_}
 use mathlib.Core.Path.{_≡_, refl}
 use mathlib.Core.Bool.{Bool, true, false, _&&_, _||_, true≢false, false≢true}
-use borrow.Author.Tests.{le-leb}
-use Rattle.lists.specs.Lists.{within, if_then_else_}
-
-pub within-in : (low high n : ℕ) → low ≤ n → n ≤ high → within low high n ≡ true
-within-in low high n h k = simp (le-leb _ _ h, le-leb _ _ k)
-
--- what holds of both branches
-pub if-either : {A : Type 0} (P : A → Type 0) (b : Bool) {x y : A} → P x → P y → P (if b then x else y)
-if-either P true p q = p
-if-either P false p q = q
 
 -- a test that holds: both parts of `&&`
 pub and-left : (a b : Bool) → a && b ≡ true → a ≡ true

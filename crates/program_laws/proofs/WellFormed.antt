@@ -15,7 +15,8 @@ use Rattle.model.specs.Text.{counting, positive, negative, read-int, Read, numb
 use Rattle.model.specs.Load.{Loaded, loaded, refused, finish, lacking, take-row, take-line, Verdict, passed, refused-at, go-on, at-first, load, load-lines, from-names}
 use Rattle.model.specs.Render.{text-of, in-range, take-rows, is-loaded, well-formed}
 use Rattle.model.specs.Claims.{WellFormedLoads}
-use Rattle.program_laws.proofs.Tests.{if-either, and-left, and-right}
+use Rattle.lists.proofs.Cuts.{if-either}
+use Rattle.program_laws.proofs.Tests.{and-left, and-right}
 use Rattle.program_laws.proofs.Range.{InRange, AllInRange, all-in-range, of-all-in-range}
 use Rattle.program_laws.proofs.RoundTrip.{load-text}
 

@@ -1,8 +1,7 @@
 -- The answers of a row by number are the model's, in its order; and a row that is closed leaves everything as it was.
 use mathlib.Core.Path.{_≡_, refl, sym, ap, _∙_, subst}
 use mathlib.Core.Bool.{Bool, true, false, not, _||_, and-eq-true-iff}
-use mathlib.Core.List.{List, [], _∷_, _++_, map}
-use mathlib.Core.Logic.{_≢_}
+use mathlib.Core.List.{List, [], _∷_, _++_}
 use Prim.Native.Nat.{ℕ, _+_, _*_, _/_, _%_, _≤_, _<_}
 use native.Mathlib.Nat.{sub-zero}
 use lib.Dec.{eqb}
@@ -22,11 +21,9 @@ use Rattle.model.specs.Matching.{Candidate, candidate, atom-candidates, justifi
 use Rattle.state.specs.declared.Scalars.{Scalars}
 use Rattle.state.specs.View.{atom-at, plan-at, config-of}
 use Rattle.queries.specs.declared.Columns.{Columns}
-use Rattle.queries.specs.declared.Wanted.{Wanted}
 use Rattle.queries.specs.declared.Match.{Match}
 use Rattle.queries.specs.declared.Answer.{Answer}
-use Rattle.queries.specs.View.{found-of, candidate-of, match-of, Wants, is-unlike}
-use Rattle.queries.proofs.Unlike.{unlike-fits-not}
+use Rattle.queries.specs.View.{found-of, candidate-of, match-of}
 use Rattle.queries.specs.Answers.{taken, atom-candidate, justification-candidate, count-of, candidate-at, fit-at, hits, answers, onward, settled, closed}
 use Rattle.queries.proofs.Laws.{justifications-few}
 
@@ -47,10 +44,10 @@ module _ (words : List ℕ) (s : Scalars) (r : Row) (f : Found) (c : ℕ) where
   unfolding hits
   hits-step h = ap (λ (l : List ℕ). bind l (fit-at words s r f)) (count-up-next c (count-of s r) h)
 
-  hits-skip : c < count-of s r → fit-at words s r f c ≡ [] → hits words s r f c ≡ hits words s r f (c + 1)
+  pub hits-skip : c < count-of s r → fit-at words s r f c ≡ [] → hits words s r f c ≡ hits words s r f (c + 1)
   hits-skip h e = hits-step h ∙ ap (λ (l : List Found). l ++ hits words s r f (c + 1)) e
 
-  -- candidate c is not there; it has another id than is wanted; it does not fit; it does
+  -- candidate c is not there; it does not fit; it does
   module _ (h : c < count-of s r) (x : Columns) (is : candidate-of x ≡ candidate-at words s r c) where
     fit-is : x .there ≡ true → fit-at words s r f c ≡ taken r (candidate (x .i) (x .a) (x .b)) f
     unfolding fit-at
@@ -62,16 +59,16 @@ module _ (words : List ℕ) (s : Scalars) (r : Row) (f : Found) (c : ℕ) where
     unfolding fit-at
     hits-absent t = hits-skip h (ap (λ (l : List Candidate). bind l (λ k. taken r k f)) (sym is ∙ ap (λ (b : Bool). when b (candidate (x .i) (x .a) (x .b))) t))
 
-    pub hits-unlike : x .there ≡ true → (i a b : Wanted) → Wants i (r .i) (f .values) → Wants a (r .a) (f .values) → Wants b (r .b) (f .values) → is-unlike i a b x ≡ true → hits words s r f c ≡ hits words s r f (c + 1)
-    unfolding taken
-    hits-unlike t i a b wi wa wb e = hits-skip h (fit-is t ∙ ap (map (found r (candidate (x .i) (x .a) (x .b)) f)) (unlike-fits-not r (f .values) i a b wi wa wb x e))
-
     module _ (t : x .there ≡ true) (m : Match) (e : match-of m ≡ taken r (candidate (x .i) (x .a) (x .b)) f) where
       pub hits-none : m .found ≡ false → hits words s r f c ≡ hits words s r f (c + 1)
       hits-none n = hits-skip h (fit-is t ∙ sym e ∙ match-none m n)
 
       pub hits-one : m .found ≡ true → hits words s r f c ≡ found-of (m .bindings) ∷ hits words s r f (c + 1)
       hits-one n = hits-step h ∙ ap (λ (l : List Found). l ++ hits words s r f (c + 1)) (fit-is t ∙ sym e ∙ match-one m n)
+
+-- an answer that is there
+pub onward-one : (rest : ℕ → List Found) (x : Answer) (n : ℕ) → x .found ≡ true → x .next ≡ n → found-of (x .bindings) ∷ rest n ≡ onward rest x
+onward-one rest x n t e = sym (ap (λ (b : Bool). if b then found-of (x .bindings) ∷ rest (x .next) else []) t ∙ ap (λ (m : ℕ). found-of (x .bindings) ∷ rest m) e)
 
 -- what a negation gives
 denied : (b : Bool) (v : Found) (f : Found) (r l : List Found) → l ≡ (if b then v ∷ r else []) → when (is-empty l) f ≡ (if not b then f ∷ [] else [])

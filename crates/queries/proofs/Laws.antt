@@ -19,41 +19,39 @@ use Rattle.table.specs.Rows.{row}
 use Rattle.state.specs.View.{plan-at}
 use Rattle.model.specs.Configuration.{has-flag}
 use Rattle.model.specs.Matching.{Candidate, Found, found, fit}
-use Rattle.queries.specs.declared.Met.{Met}
-use Rattle.queries.specs.View.{met-of}
 use Rattle.queries.specs.Answers.{taken}
 
 -- one operand after the other
-module _ (m : Met) where
-  met-none : m .found ≡ false → met-of m ≡ []
-  met-none h = ap (λ (b : Bool). when b (m .values)) h
+module _ (met : Bool) (values : List ℕ) where
+  met-none : met ≡ false → when met values ≡ []
+  met-none h = ap (λ (b : Bool). when b values) h
 
-  met-one : m .found ≡ true → met-of m ≡ m .values ∷ []
-  met-one h = ap (λ (b : Bool). when b (m .values)) h
+  met-one : met ≡ true → when met values ≡ values ∷ []
+  met-one h = ap (λ (b : Bool). when b values) h
 
   -- a first part without an answer ends it
-  pub stop : (l : List (List ℕ)) (f : List ℕ → List (List ℕ)) → met-of m ≡ l → m .found ≡ false → met-of m ≡ bind l f
-  stop l f e h = met-none h ∙ ap (λ (k : List (List ℕ)). bind k f) (sym (met-none h) ∙ e)
+  pub stop : (l : List (List ℕ)) (f : List ℕ → List (List ℕ)) → when met values ≡ l → met ≡ false → [] ≡ bind l f
+  stop l f e h = ap (λ (k : List (List ℕ)). bind k f) (sym (met-none h) ∙ e)
 
   -- a first part with an answer: what follows is asked of that
-  pub go : {r : List (List ℕ)} (l : List (List ℕ)) (f : List ℕ → List (List ℕ)) → met-of m ≡ l → m .found ≡ true → r ≡ f (m .values) → r ≡ bind l f
-  go l f e h e′ = e′ ∙ sym (append-nil (f (m .values))) ∙ ap (λ (k : List (List ℕ)). bind k f) (sym (met-one h) ∙ e)
+  pub go : {r : List (List ℕ)} (l : List (List ℕ)) (f : List ℕ → List (List ℕ)) → when met values ≡ l → met ≡ true → r ≡ f values → r ≡ bind l f
+  go l f e h e′ = e′ ∙ sym (append-nil (f values)) ∙ ap (λ (k : List (List ℕ)). bind k f) (sym (met-one h) ∙ e)
 
   -- what is found after a candidate
-  module _ (r : Row) (k : Candidate) (f : Found) (e : met-of m ≡ fit r k (f .values)) where
-    pub taken-none : m .found ≡ false → [] ≡ taken r k f
+  module _ (r : Row) (k : Candidate) (f : Found) (e : when met values ≡ fit r k (f .values)) where
+    pub taken-none : met ≡ false → [] ≡ taken r k f
     unfolding taken
     taken-none h = ap (map (found r k f)) (sym (met-none h) ∙ e)
 
-    taken-one : m .found ≡ true → found r k f (m .values) ∷ [] ≡ taken r k f
+    taken-one : met ≡ true → found r k f values ∷ [] ≡ taken r k f
     unfolding taken
     taken-one h = ap (map (found r k f)) (sym (met-one h) ∙ e)
 
-    pub taken-plain : m .found ≡ true → (r .part ≡ 1 → ⊥) → _≡_ {A = List Found} (record { values = m .values; matched = f .matched } ∷ []) (taken r k f)
+    pub taken-plain : met ≡ true → (r .part ≡ 1 → ⊥) → _≡_ {A = List Found} (record { values = values; matched = f .matched } ∷ []) (taken r k f)
     unfolding found
     taken-plain h p = rw (ne-eqb (r .part) 1 p) at (taken-one h)
 
-    pub taken-reason : m .found ≡ true → r .part ≡ 1 → (l : List ℕ) → l ≡ f .matched ++ (k .i ∷ []) → _≡_ {A = List Found} (record { values = m .values; matched = l } ∷ []) (taken r k f)
+    pub taken-reason : met ≡ true → r .part ≡ 1 → (l : List ℕ) → l ≡ f .matched ++ (k .i ∷ []) → _≡_ {A = List Found} (record { values = values; matched = l } ∷ []) (taken r k f)
     unfolding found
     taken-reason h p l q = rw q (rw (eq-eqb (r .part) 1 p) at (taken-one h))
 

@@ -1,4 +1,5 @@
 pub mod Laws
 pub mod Unlike
 pub mod Answers
-pub mod Limits
+pub mod Skips
+pub mod Halves

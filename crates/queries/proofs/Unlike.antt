@@ -1,7 +1,7 @@
 -- A candidate with a column that is not the number wanted there does not fit.
-use mathlib.Core.Path.{_≡_, refl, sym, ap, _∙_, subst}
+use mathlib.Core.Path.{_≡_, refl, sym, ap, _∙_}
 use mathlib.Core.Bool.{Bool, true, false, not, and-eq-true-iff}
-use mathlib.Core.Logic.{_≢_, ⊎-elim}
+use mathlib.Core.Logic.{⊎-elim}
 use mathlib.Core.List.{List, [], _∷_, _++_}
 use Prim.Native.Nat.{ℕ}
 use lib.Dec.{eqb}
@@ -9,13 +9,11 @@ use lib.ListN.{getD, set}
 use lib.Seq.{getD-set-other}
 use borrow.Author.Tests.{eqb-true, eqb-false, not-true}
 use Rattle.lists.specs.Lists.{In, first, later, when, bind, if_then_else_}
-use Rattle.lists.proofs.Lists.{in-nil, in-one}
-use Rattle.lists.proofs.Tests.{or-cases}
-use Rattle.lists.proofs.Tables.{equal-or-not}
+use Rattle.lists.proofs.Lists.{in-nil, in-one, or-cases}
 use Rattle.model.specs.declared.Row.{Row}
 use Rattle.model.specs.Program.{any?, constant?, constant}
 use Rattle.model.specs.Configuration.{no-value, place, value-of}
-use Rattle.model.specs.Matching.{Candidate, candidate, meet, fit}
+use Rattle.model.specs.Matching.{candidate, meet, fit}
 use Rattle.queries.specs.declared.Wanted.{Wanted}
 use Rattle.queries.specs.declared.Columns.{Columns}
 use Rattle.queries.specs.View.{Grown, Wants, unlike, is-unlike}

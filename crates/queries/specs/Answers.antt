@@ -14,7 +14,8 @@ use Rattle.model.specs.Matching.{Candidate, candidate, Found, found, fit, negat
 use Rattle.state.specs.declared.Scalars.{Scalars}
 use Rattle.state.specs.View.{atom-at, plan-at}
 use Rattle.queries.specs.declared.Answer.{Answer}
-use Rattle.queries.specs.View.{found-of}
+use Rattle.queries.specs.declared.Wanted.{Wanted}
+use Rattle.queries.specs.View.{found-of, Wants}
 
 -- what is found after a candidate
 unfoldable pub taken : Row → Candidate → Found → List Found
@@ -87,6 +88,15 @@ pub record Next (rest : ℕ → List Found) (c limit most : ℕ) (x : Answer) : 
   pub is : rest c ≡ onward rest x
   pub further : x .found ≡ true → (c < x .next) × (x .next ≤ limit)
   pub few : x .bindings .count ≤ most
+
+-- none of these candidates fits a row that wants these numbers
+pub record Missed (i a b : Wanted) (l : List Candidate) : Type 0 where
+  pub none : (r : Row) (f : Found) → Wants i (r .i) (f .values) → Wants a (r .a) (f .values) → Wants b (r .b) (f .values) → bind l (λ k. taken r k f) ≡ []
+
+-- from one number up to another no candidate fits
+pub record Skipped (l : ℕ → List Candidate) (i a b : Wanted) (from to : ℕ) : Type 0 where
+  pub on : from ≤ to
+  pub missed : (c : ℕ) → from ≤ c → c < to → Missed i a b (l c)
 
 -- an operand that takes no value: any, a constant, a variable with a value
 abbrev pub settled : List ℕ → ℕ → Bool

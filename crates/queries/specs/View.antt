@@ -5,39 +5,42 @@ use mathlib.Core.Logic.{_≢_}
 use mathlib.Core.List.{List, []}
 use Prim.Native.Nat.{ℕ, _+_, _<_, _≤_}
 use lib.Dec.{eqb}
-use lib.ListN.{length, take}
+use lib.ListN.{length, take, getD}
 use Rattle.lists.specs.Lists.{bit, when}
 use Rattle.model.specs.declared.Row.{Row}
 use Rattle.model.specs.Configuration.{no-value, value-of}
 use Rattle.model.specs.Matching.{Candidate, candidate, meet, Found}
 use Rattle.state.specs.declared.Scalars.{Scalars}
-use Rattle.state.specs.View.{plan-at}
+use Rattle.state.specs.View.{plan-at, AtomsRise, PlansRise}
 use Rattle.queries.specs.declared.Bindings.{Bindings}
-use Rattle.queries.specs.declared.Met.{Met}
 use Rattle.queries.specs.declared.Columns.{Columns}
 use Rattle.queries.specs.declared.Wanted.{Wanted}
 use Rattle.queries.specs.declared.Match.{Match}
+use Rattle.queries.specs.declared.Answer.{Answer}
 
 -- the values so far, and the ids that the reasons matched
 abbrev pub found-of : Bindings → Found
 found-of f = record { values = f .values; matched = take (f .count) (f .matched) }
 
 -- one answer or none
-abbrev pub met-of : Met → List (List ℕ)
-met-of m = when (m .found) (m .values)
-
 abbrev pub candidate-of : Columns → List Candidate
 candidate-of x = when (x .there) (candidate (x .i) (x .a) (x .b))
 
 abbrev pub match-of : Match → List Found
 match-of m = when (m .found) (found-of (m .bindings))
 
--- words of a configuration: as many as there are, no more live than may, sixteen flags to a plan
+-- an answer by itself
+abbrev pub match-in : Answer → Match
+match-in x = record { bindings = x .bindings; found = x .found }
+
+-- words of a configuration: as many as there are, no more live than may, sixteen flags to a plan, rising ids
 pub record Limits (words : List ℕ) (s : Scalars) : Type 0 where
   pub long : length words ≡ 2432
   pub atoms : s .atoms ≤ 256
   pub plans : s .plans ≤ 64
   pub flags : (k : ℕ) → k < s .plans → plan-at words k .flags ≤ 65535
+  pub atoms-rise : AtomsRise (s .atoms) words
+  pub plans-rise : PlansRise (s .plans) words
 
 -- how many ids may be matched after the row
 abbrev pub room : Row → Bindings → ℕ
@@ -62,3 +65,11 @@ unlike w n = w .known && not (eqb n (w .number))
 
 abbrev pub is-unlike : Wanted → Wanted → Wanted → Columns → Bool
 is-unlike i a b x = unlike i (x .i) || (unlike a (x .a) || unlike b (x .b))
+
+-- a candidate that is there, with each number that is wanted
+abbrev pub is-like : Wanted → Wanted → Wanted → Columns → Bool
+is-like i a b x = x .there && not (is-unlike i a b x)
+
+-- none of four numbers is the one that is wanted
+abbrev pub lacks : Wanted → List ℕ → Bool
+lacks a l = (unlike a (getD l 0 0) && unlike a (getD l 1 0)) && (unlike a (getD l 2 0) && unlike a (getD l 3 0))

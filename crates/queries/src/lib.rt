@@ -3,25 +3,22 @@ use model::Row;
 use state::Scalars;
 ghost use mathlib.Core.Path.{_≡_};
 ghost use mathlib.Core.Bool.{true};
-ghost use Prim.Native.Nat.{_+_, _-_, _*_, _/_, _%_, _<_, _≤_};
+ghost use mathlib.Core.Logic.{_≢_};
+ghost use Prim.Native.Nat.{ℕ, _+_, _-_, _*_, _/_, _%_, _<_, _≤_};
 ghost use lib.ListN.{length};
+ghost use Rattle.lists.specs.Lists.{when};
 ghost use Rattle.model.specs.Configuration.{has-flag};
 ghost use Rattle.model.specs.Matching.{candidate, meet as met-with, fit as fit-of};
 ghost use Rattle.state.specs.View.{atom-at, plan-at};
-ghost use Rattle.queries.specs.View.{found-of, met-of, candidate-of, Limits, room, Fitted, Wants, is-unlike};
-ghost use Rattle.queries.specs.Answers.{taken, atom-candidate, plan-candidate, remainder-candidate, justification-candidate, subgoal-candidate, state-candidate, count-of, candidate-at, hits, answers, width, Next, settled, closed};
+ghost use Rattle.queries.specs.declared.Wanted.{Wanted};
+ghost use Rattle.queries.specs.View.{found-of, candidate-of, match-in, Limits, room, Fitted, Wants, unlike, is-like, lacks};
+ghost use Rattle.queries.specs.Answers.{taken, atom-candidate, plan-candidate, remainder-candidate, justification-candidate, subgoal-candidate, state-candidate, count-of, candidate-at, hits, answers, width, Next, Skipped, settled, closed};
 
 // What is found so far: the values of variables 1 to 8, and the ids that the reasons matched, of which there are `count`.
 pub struct Bindings {
     pub values: [u32; 8],
     pub matched: [u32; 4],
     pub count: usize,
-}
-
-// The values after an operand or a candidate, if it fits.
-pub struct Met {
-    pub values: [u32; 8],
-    pub found: bool,
 }
 
 // What stands in the columns i, a and b of a candidate, if it is there.
@@ -51,88 +48,75 @@ pub struct Answer {
     pub found: bool,
 }
 
-// "A variable without a value takes the candidate's; one with a value must equal it."
-fn meet(x: u32, n: u32, values: [u32; 8]) -> Met
-    ensures { λ m. ⌜ met-of m ≡ met-with x n values ⌝ }
+// "A variable without a value takes the candidate's; one with a value must equal it." False where it does not fit.
+fn meet(x: u32, n: u32, values: &mut [u32]) -> bool
+    requires { ⌜ length (now values) ≡ 8 ⌝ }
+    ensures { λ b. ⌜ when b (now (values .exit)) ≡ met-with x n (now (values .entry)) ⌝ }
 {
     if x == 0 {
-        return Met {
-            values,
-            found: true,
-        };
+        return true;
     }
     if 9 <= x {
-        return Met {
-            values,
-            found: x - 9 == n,
-        };
+        return x - 9 == n;
     }
     let k = (8 - x) as usize;
     let v = values[k];
     if v == state::NO_VALUE {
-        let mut after = values;
-        after[k] = n;
-        return Met {
-            values: after,
-            found: true,
-        };
+        values[k] = n;
+        return true;
     }
-    Met {
-        values,
-        found: v == n,
-    }
+    v == n
 }
 
 // The three operands of a row against what stands in a candidate's columns.
-fn fit(r: Row, i: u32, a: u32, b: u32, values: [u32; 8]) -> Met
-    ensures { λ m. ⌜ met-of m ≡ fit-of r (candidate i a b) values ⌝ }
+fn fit(r: Row, i: u32, a: u32, b: u32, values: &mut [u32]) -> bool
+    requires { ⌜ length (now values) ≡ 8 ⌝ }
+    ensures { λ m. ⌜ when m (now (values .exit)) ≡ fit-of r (candidate i a b) (now (values .entry)) ⌝ }
 {
-    let m = meet(r.i, i, values);
-    if !m.found {
-        return m;
+    if !meet(r.i, i, values) {
+        return false;
     }
-    let v = m.values;
-    let m2 = meet(r.a, a, v);
-    if !m2.found {
-        return m2;
+    if !meet(r.a, a, values) {
+        return false;
     }
-    let v2 = m2.values;
-    meet(r.b, b, v2)
+    meet(r.b, b, values)
 }
 
-// What is found after a candidate: of a reason its id too.
-fn take(r: Row, i: u32, a: u32, b: u32, f: Bindings) -> Match
+// What is found after a candidate: of a reason its id too. The answer is looked for from `next` on afterwards.
+fn take(r: Row, i: u32, a: u32, b: u32, next: usize, f: Bindings) -> Answer
     requires { ⌜ room r f ≤ 4 ⌝ }
-    ensures { λ m. ⌜ Fitted (taken r (candidate i a b) (found-of f)) (room r f) m ⌝ }
+    ensures { λ x. ⌜ Fitted (taken r (candidate i a b) (found-of f)) (room r f) (match-in x) ⌝ }
+    ensures next { λ x. ⌜ x .next ≡ next ⌝ }
 {
-    let values = f.values;
-    let m = fit(r, i, a, b, values);
-    if !m.found {
-        return Match {
+    let mut values = f.values;
+    if !fit(r, i, a, b, &mut values) {
+        return Answer {
             bindings: f,
+            next,
             found: false,
         };
     }
-    let after = m.values;
     let mut matched = f.matched;
     let count = f.count;
     if r.part == 1 {
         matched[count] = i;
-        return Match {
+        return Answer {
             bindings: Bindings {
-                values: after,
+                values,
                 matched,
                 count: count + 1,
             },
+            next,
             found: true,
         };
     }
-    Match {
+    Answer {
         bindings: Bindings {
-            values: after,
+            values,
             matched,
             count,
         },
+        next,
         found: true,
     }
 }
@@ -321,8 +305,9 @@ fn candidate_at(words: &[u32], s: Scalars, r: Row, c: usize) -> Columns
 }
 
 // The number that an operand must meet, if it is known: a constant, or the value of its variable.
-fn wanted_by(x: u32, values: [u32; 8]) -> Wanted
-    ensures { λ w. ⌜ Wants w x values ⌝ }
+fn wanted_by(x: u32, values: &[u32]) -> Wanted
+    requires { ⌜ length (now values) ≡ 8 ⌝ }
+    ensures { λ w. ⌜ Wants w x (now (values .entry)) ⌝ }
 {
     if 9 <= x {
         return Wanted {
@@ -344,50 +329,280 @@ fn wanted_by(x: u32, values: [u32; 8]) -> Wanted
     }
 }
 
-// One of the candidate's columns is not the number that is wanted there.
-fn is_unlike(i: Wanted, a: Wanted, b: Wanted, x: Columns) -> bool
-    ensures { λ r. ⌜ r ≡ is-unlike i a b x ⌝ }
+// The number is not the one that is wanted.
+fn is_unlike(w: Wanted, n: u32) -> bool
+    ensures { λ r. ⌜ r ≡ unlike w n ⌝ }
 {
-    (i.known & (x.i != i.number)) | ((a.known & (x.a != a.number)) | (b.known & (x.b != b.number)))
+    w.known & (n != w.number)
 }
 
-// The first candidate from `from` on that fits. One with other columns than the row wants is passed over at once.
+// The candidate is there, and each number that is wanted is its own.
+fn is_like(i: Wanted, a: Wanted, b: Wanted, x: Columns) -> bool
+    ensures { λ r. ⌜ r ≡ is-like i a b x ⌝ }
+{
+    if !x.there {
+        return false;
+    }
+    if is_unlike(a, x.a) {
+        return false;
+    }
+    if is_unlike(b, x.b) {
+        return false;
+    }
+    !is_unlike(i, x.i)
+}
+
+// The first candidate from `from` on that is like what is wanted, or n; of atoms, and so on by query.
+fn skip_atoms(
+    words: &[u32],
+    p: u32,
+    i: Wanted,
+    a: Wanted,
+    b: Wanted,
+    from: usize,
+    n: usize,
+) -> usize
+    requires { ⌜ (length (now words) ≡ 2432) × (n ≤ 256) ⌝ }
+    ensures { λ r. ⌜ Skipped (λ c. atom-candidate p (atom-at (now (words .entry)) c)) i a b from r ⌝ }
+{
+    let mut c = from;
+    while c < n {
+        let x = atom_candidate(words, p, c);
+        if is_like(i, a, b, x) {
+            return c;
+        }
+        c += 1;
+    }
+    c
+}
+
+fn skip_plans(words: &[u32], i: Wanted, a: Wanted, b: Wanted, from: usize, n: usize) -> usize
+    requires { ⌜ (length (now words) ≡ 2432) × (n ≤ 64) ⌝ }
+    ensures { λ r. ⌜ Skipped (λ c. plan-candidate (plan-at (now (words .entry)) c)) i a b from r ⌝ }
+{
+    let mut c = from;
+    while c < n {
+        let x = plan_candidate(words, c);
+        if is_like(i, a, b, x) {
+            return c;
+        }
+        c += 1;
+    }
+    c
+}
+
+fn skip_remainders(words: &[u32], i: Wanted, a: Wanted, b: Wanted, from: usize, n: usize) -> usize
+    requires { ⌜ (length (now words) ≡ 2432) × (n ≤ 64) ⌝ }
+    ensures { λ r. ⌜ Skipped (λ c. remainder-candidate (plan-at (now (words .entry)) c)) i a b from r ⌝ }
+{
+    let mut c = from;
+    while c < n {
+        let x = remainder_candidate(words, c);
+        if is_like(i, a, b, x) {
+            return c;
+        }
+        c += 1;
+    }
+    c
+}
+
+fn skip_subgoals(words: &[u32], i: Wanted, a: Wanted, b: Wanted, from: usize, n: usize) -> usize
+    requires { ⌜ (length (now words) ≡ 2432) × (n ≤ 64) ⌝ }
+    ensures { λ r. ⌜ Skipped (λ c. subgoal-candidate (plan-at (now (words .entry)) c)) i a b from r ⌝ }
+{
+    let mut c = from;
+    while c < n {
+        let x = subgoal_candidate(words, c);
+        if is_like(i, a, b, x) {
+            return c;
+        }
+        c += 1;
+    }
+    c
+}
+
+fn skip_states(
+    words: &[u32],
+    flag: u32,
+    i: Wanted,
+    a: Wanted,
+    b: Wanted,
+    from: usize,
+    n: usize,
+) -> usize
+    requires { ⌜ (length (now words) ≡ 2432) × (n ≤ 64) × ((k : ℕ) → k < n → plan-at (now words) k .flags ≤ 65535) ⌝ }
+    ensures { λ r. ⌜ Skipped (λ c. state-candidate flag (plan-at (now (words .entry)) c)) i a b from r ⌝ }
+{
+    let mut c = from;
+    while c < n {
+        let x = state_candidate(words, flag, c);
+        if is_like(i, a, b, x) {
+            return c;
+        }
+        c += 1;
+    }
+    c
+}
+
+// None of plan k's justifications is the number that is wanted.
+fn is_lacking(a: Wanted, words: &[u32], k: usize) -> bool
+    requires { ⌜ (length (now words) ≡ 2432) × (k < 64) ⌝ }
+    ensures { λ r. ⌜ r ≡ lacks a (plan-at (now (words .entry)) k .justifications) ⌝ }
+{
+    let first = state::plan_justification(words, k, 0);
+    let second = state::plan_justification(words, k, 1);
+    let third = state::plan_justification(words, k, 2);
+    let fourth = state::plan_justification(words, k, 3);
+    (is_unlike(a, first) & is_unlike(a, second)) & (is_unlike(a, third) & is_unlike(a, fourth))
+}
+
+// A plan with another id than is wanted, or without the atom, is passed over with its four numbers, and so are those past its last
+// justification.
+fn skip_justifications(words: &[u32], i: Wanted, a: Wanted, from: usize, n: usize) -> usize
+    requires { ⌜ (length (now words) ≡ 2432) × (n ≤ 256) ⌝ }
+    ensures { λ r. ⌜ ((b : Wanted) → Skipped (λ c. justification-candidate (plan-at (now (words .entry)) (c / 4)) (c % 4)) i a b from r) ⌝ }
+{
+    let mut c = from;
+    while c < n {
+        let k = c / 4;
+        let j = c % 4;
+        let id = state::plan_id(words, k);
+        if is_unlike(i, id) {
+            c = k * 4 + 4;
+            continue;
+        }
+        if is_lacking(a, words, k) {
+            c = k * 4 + 4;
+            continue;
+        }
+        let atom = state::plan_justification(words, k, j);
+        if is_unlike(a, atom) {
+            c += 1;
+            continue;
+        }
+        if justification_count(words, k) <= j {
+            c = k * 4 + 4;
+            continue;
+        }
+        return c;
+    }
+    c
+}
+
+// The next place to look at for what stands at one place only, or nowhere: then that place is n.
+fn leap(from: usize, at: usize, n: usize) -> usize
+    requires { ⌜ at ≤ n ⌝ }
+    ensures { λ r. ⌜ (from ≤ r) × ((c : ℕ) → from ≤ c → c < r → (c < n) × (c ≢ at)) ⌝ }
+{
+    if from <= at {
+        return at;
+    }
+    if from < n {
+        return n;
+    }
+    from
+}
+
+// The same for what has four numbers, as the justifications of plan k.
+fn leap_four(from: usize, k: usize, n: usize) -> usize
+    requires { ⌜ (k * 4 ≤ n) × (n ≤ 256) ⌝ }
+    ensures { λ r. ⌜ (from ≤ r) × ((c : ℕ) → from ≤ c → c < r → (c < n) × (c / 4 ≢ k)) ⌝ }
+{
+    let at = k * 4;
+    if from <= at {
+        return at;
+    }
+    if from < at + 4 {
+        return from;
+    }
+    if from < n {
+        return n;
+    }
+    from
+}
+
+// An id that is wanted is found by halves, since ids rise; no candidate with another id fits.
+fn skip_wanted(words: &[u32], s: Scalars, r: Row, i: Wanted, from: usize) -> usize
+    requires { ⌜ Limits (now words) s × (i .known ≡ true) ⌝ }
+    ensures { λ c. ⌜ ((a b : Wanted) → Skipped (candidate-at (now (words .entry)) s r) i a b from c) ⌝ }
+{
+    let op = r.op;
+    if (1 <= op) & (op <= 2) {
+        let k = state::find_atom(words, s.atoms, i.number);
+        return leap(from, k, s.atoms as usize);
+    }
+    if op < 3 {
+        return from;
+    }
+    if 12 < op {
+        return from;
+    }
+    let k = state::find_plan(words, s.plans, i.number);
+    if (7 <= op) & (op <= 8) {
+        return leap_four(from, k, s.plans as usize * 4);
+    }
+    leap(from, k, s.plans as usize)
+}
+
+// The first candidate of a row from `from` on that may fit: the kind of candidate is chosen once for all that are passed over.
+fn skip(words: &[u32], s: Scalars, r: Row, i: Wanted, a: Wanted, b: Wanted, from: usize) -> usize
+    requires { ⌜ Limits (now words) s ⌝ }
+    ensures { λ c. ⌜ Skipped (candidate-at (now (words .entry)) s r) i a b from c ⌝ }
+{
+    if i.known {
+        return skip_wanted(words, s, r, i, from);
+    }
+    let op = r.op;
+    if (1 <= op) & (op <= 2) {
+        return skip_atoms(words, r.p, i, a, b, from, s.atoms as usize);
+    }
+    if (3 <= op) & (op <= 4) {
+        return skip_plans(words, i, a, b, from, s.plans as usize);
+    }
+    if (5 <= op) & (op <= 6) {
+        return skip_remainders(words, i, a, b, from, s.plans as usize);
+    }
+    if (7 <= op) & (op <= 8) {
+        return skip_justifications(words, i, a, from, s.plans as usize * 4);
+    }
+    if (9 <= op) & (op <= 10) {
+        return skip_subgoals(words, i, a, b, from, s.plans as usize);
+    }
+    if (11 <= op) & (op <= 12) {
+        return skip_states(words, r.a, i, a, b, from, s.plans as usize);
+    }
+    from
+}
+
+// The first candidate from `from` on that fits.
 fn next_fit(words: &[u32], s: Scalars, r: Row, from: usize, f: Bindings) -> Answer
     requires { ⌜ Limits (now words) s × (room r f ≤ 4) ⌝ }
     ensures { λ x. ⌜ Next (hits (now (words .entry)) s r (found-of f)) from (count-of s r) (room r f) x ⌝ }
 {
     let n = count(s, r);
     let values = f.values;
-    let i = wanted_by(r.i, values);
-    let a = wanted_by(r.a, values);
-    let b = wanted_by(r.b, values);
-    let mut c = from;
-    while c < n {
-        let next = c + 1;
-        let x = candidate_at(words, s, r, c);
-        if !x.there {
-            c = next;
-            continue;
-        }
-        if is_unlike(i, a, b, x) {
-            c = next;
-            continue;
-        }
-        let m = take(r, x.i, x.a, x.b, f);
-        if m.found {
-            let b = m.bindings;
+    let i = wanted_by(r.i, &values);
+    let a = wanted_by(r.a, &values);
+    let b = wanted_by(r.b, &values);
+    let mut next = from;
+    loop {
+        let c = skip(words, s, r, i, a, b, next);
+        if n <= c {
             return Answer {
-                bindings: b,
-                next,
-                found: true,
+                bindings: f,
+                next: 0,
+                found: false,
             };
         }
-        c = next;
-    }
-    Answer {
-        bindings: f,
-        next: 0,
-        found: false,
+        next = c + 1;
+        let x = candidate_at(words, s, r, c);
+        if !x.there {
+            continue;
+        }
+        let m = take(r, x.i, x.a, x.b, next, f);
+        if m.found {
+            return m;
+        }
     }
 }
 
@@ -415,8 +630,9 @@ pub fn next_answer(words: &[u32], s: Scalars, r: Row, c: usize, f: Bindings) -> 
 }
 
 // Whether an operand takes no value: any, a constant, a variable with a value.
-fn settles(x: u32, values: [u32; 8]) -> bool
-    ensures { λ b. ⌜ b ≡ settled values x ⌝ }
+fn settles(x: u32, values: &[u32]) -> bool
+    requires { ⌜ length (now values) ≡ 8 ⌝ }
+    ensures { λ b. ⌜ b ≡ settled (now (values .entry)) x ⌝ }
 {
     if 9 <= x {
         return true;
@@ -432,8 +648,8 @@ fn settles(x: u32, values: [u32; 8]) -> bool
 pub fn closes(r: Row, values: [u32; 8]) -> bool
     ensures { λ b. ⌜ b ≡ closed r values ⌝ }
 {
-    let i = settles(r.i, values);
-    let a = settles(r.a, values);
-    let b = settles(r.b, values);
+    let i = settles(r.i, &values);
+    let a = settles(r.a, &values);
+    let b = settles(r.b, &values);
     (r.part != 1) & (i & (a & b))
 }

@@ -1,7 +1,7 @@
 // The cause of a refusal in plain words, by its number in document 01's table.
-ghost use mathlib.Core.Path.{_≡_};
 ghost use Prim.Native.Nat.{_≤_};
-ghost use lib.ListN.{length, take};
+ghost use lib.ListN.{length};
+ghost use Rattle.refusals.specs.Table.{Says, words};
 
 // The first bytes of an array.
 pub struct Words {
@@ -11,14 +11,12 @@ pub struct Words {
 
 // A text of up to 96 bytes.
 fn wording(text: &[u8]) -> Words
-    ensures { λ r. ⌜ (r .length ≤ length (r .bytes)) × (r .length ≡ length (take (r .length) (r .bytes))) ⌝ }
+    requires { ⌜ length (now text) ≤ 96 ⌝ }
+    ensures { λ r. ⌜ Says r (now (text .entry)) ⌝ }
 {
     let mut bytes = [0u8; 96];
     let mut length: usize = 0;
     while length < text.len() {
-        if 96 <= length {
-            return Words { bytes, length };
-        }
         bytes[length] = text[length];
         length += 1;
     }
@@ -27,7 +25,7 @@ fn wording(text: &[u8]) -> Words
 
 // The table.
 pub fn refusal_words(number: u32) -> Words
-    ensures { λ r. ⌜ (r .length ≤ length (r .bytes)) × (r .length ≡ length (take (r .length) (r .bytes))) ⌝ }
+    ensures { λ r. ⌜ Says r (words number) ⌝ }
 {
     match number {
         1 => wording(b"program or configuration not well formed"),

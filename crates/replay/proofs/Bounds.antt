@@ -22,8 +22,8 @@ use Rattle.model.specs.Configuration as Configuration
 use Rattle.model.specs.Run.{listing}
 use Rattle.listing.specs.Listing.{Listable}
 use Rattle.listing.proofs.Well.{listable}
-use Rattle.interpreter.specs.Calls.{admitted}
-use Rattle.interpreter.proofs.Outcomes.{given-admitted}
+use Rattle.in_place.specs.Given.{admitted}
+use Rattle.in_place.proofs.Outcomes.{given-admitted}
 
 -- the end of a line that is looked for in the first n bytes
 pub ends-inside : (l : List ℕ) (n from r : ℕ) → n ≤ length l → Ends (take n l) from r → (from ≤ r) × (r ≤ n)

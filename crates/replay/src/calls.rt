@@ -101,7 +101,7 @@ pub fn show(program: &[u32], b: Bench, out: &mut [u8; 4096]) -> Bench {
     let config = b.config;
     let words = config.words;
     let scalars = config.scalars;
-    if !interpreter::admits(program, &words, scalars) {
+    if !interpreter::admits(program, config) {
         let at = output::put_refused(out, b.at, 1);
         return b.with(config, at);
     }

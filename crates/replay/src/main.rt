@@ -24,6 +24,7 @@ mod input;
 mod lines;
 mod output;
 mod raw;
+mod reasons;
 
 use output::Bench;
 use state::Config;

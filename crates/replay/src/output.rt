@@ -1,4 +1,5 @@
 // What is printed: bytes, numbers and the lines of the answers, gathered in a buffer that is written when it is full.
+use crate::reasons;
 use running::Stop;
 use state::Config;
 use state::Scalars;
@@ -123,7 +124,7 @@ pub fn put_refused(out: &mut [u8; 4096], at: usize, number: u32) -> usize {
     put_cause(out, at, number)
 }
 
-// A refused load. Whatever tells its cause more exactly, from the text, the number and the line, is called here.
+// A refused load, with the cause as exact as it can be told.
 pub fn put_load_refused(
     out: &mut [u8; 4096],
     at: usize,
@@ -133,7 +134,9 @@ pub fn put_load_refused(
 ) -> usize {
     let at = put_with(out, at, b"refused ", number);
     let at = put_with(out, at, b" line ", line);
-    put_cause(out, at, number)
+    let at = put(out, at, b": ");
+    let at = reasons::put_reason(out, at, text, number);
+    put(out, at, b"\n")
 }
 
 // A call with no answer of its own but what it made and what went.

@@ -1,6 +1,7 @@
 -- What comes of a row, and that a row that passes leaves the scan's numbers small.
 use mathlib.Core.Path.{_≡_, refl, ap, sym, subst, _∙_}
 use mathlib.Core.Bool.{Bool, true, false, not, _&&_}
+use mathlib.Core.List.{List, []}
 use Prim.Native.Nat.{ℕ, _+_, _≤_}
 use native.Mathlib.Omega.{arith}
 use lib.Dec.{eqb}
@@ -9,9 +10,10 @@ use Rattle.lists.specs.Lists.{bit}
 use Rattle.lists.proofs.Cuts.{if-either}
 use Rattle.model.specs.declared.Row.{Row}
 use Rattle.model.specs.declared.Scan.{Scan}
-use Rattle.model.specs.Load.{same-rule, lacking, initial, begun, taken, fault, take-row, passed, at-first}
+use Rattle.model.specs.Load.{same-rule, lacking, initial, begun, with-ceiling, taken, fault, take-row, passed, at-first}
 use Rattle.program_laws.proofs.Accepted.{passes}
-use Rattle.rows.specs.Scanning.{Small, verdict-of}
+use Rattle.rows.specs.declared.RuleScan.{RuleScan}
+use Rattle.rows.specs.Scanning.{whole, Small, verdict-of}
 
 pub small-first : Small at-first
 unfolding at-first
@@ -63,26 +65,31 @@ module _ (r : Row) where
         small = subst Small (sym (p .next)) (small-taken (small-begun w (a .set-small) (a .rule-small)) (omega arith) (a .set-small) (a .rule-small));
       }
 
+-- the numbers of a scan are small whatever the ceilings are
+pub small-any : (s : RuleScan) (c d : List ℕ) → Small (whole s c) → Small (whole s d)
+small-any s c d w = record { count = w .count; set = w .set; rule = w .rule; atoms = w .atoms; reasons = w .reasons; context = w .context; body = w .body }
+
 -- the ways through the tests on a row
-module _ (s : Scan) (r : Row) {a b : Bool} (p : a ≡ lacking s) (q : b ≡ same-rule s r) where
-  pub lacking-refused : a && not b ≡ true → verdict-of (record { number = 3; line = s .count + 1; scan = s }) ≡ take-row s r
+module _ (s : RuleScan) (C : List ℕ) (r : Row) {a b : Bool} (p : a ≡ lacking (whole s C)) (q : b ≡ same-rule (whole s C) r) where
+  pub lacking-refused : a && not b ≡ true → verdict-of (record { number = 3; line = s .count + 1; scan = s }) C ≡ take-row (whole s C) r
   unfolding take-row verdict-of
   lacking-refused l = rw (← p, ← q, l)
 
-  module _ (l : a && not b ≡ false) (t : Scan) (g : t ≡ begun s r) where
-    pub fault-refused : {n : ℕ} → n ≡ fault s t r → (n ≡ 0 → ⊥) → verdict-of (record { number = n; line = s .count + 2; scan = s }) ≡ take-row s r
+  module _ (l : a && not b ≡ false) (t : RuleScan) (g : (c : List ℕ) → whole t c ≡ begun (whole s c) r) where
+    pub fault-refused : {n : ℕ} → n ≡ fault (whole s C) (whole t C) r → (n ≡ 0 → ⊥) → verdict-of (record { number = n; line = s .count + 2; scan = s }) C ≡ take-row (whole s C) r
     unfolding take-row verdict-of
-    fault-refused {n} f z = rw (ne-eqb n 0 z, ← p, ← q, l, ← g, ← f, ne-eqb n 0 z)
+    fault-refused {n} f z = rw (ne-eqb n 0 z, ← p, ← q, l, ← g C, ← f, ne-eqb n 0 z)
 
-    passed-on : {n : ℕ} → n ≡ fault s t r → n ≡ 0 → take-row s r ≡ passed (taken t r)
+    passed-on : {n : ℕ} → n ≡ fault (whole s C) (whole t C) r → n ≡ 0 → take-row (whole s C) r ≡ passed (taken (whole t C) r)
     unfolding take-row
-    passed-on {n} f z = rw (← p, ← q, l, ← g, ← f, z)
+    passed-on {n} f z = rw (← p, ← q, l, ← g C, ← f, z)
 
-    pub row-passed : {n : ℕ} (v : Scan) → n ≡ fault s t r → n ≡ 0 → v ≡ taken t r → verdict-of (record { number = 0; line = 0; scan = v }) ≡ take-row s r
+    pub row-passed : {n : ℕ} (v : RuleScan) (D : List ℕ) → n ≡ fault (whole s C) (whole t C) r → n ≡ 0 → ((c : List ℕ) → whole v (with-ceiling r c) ≡ taken (whole t c) r) → D ≡ with-ceiling r C →
+        verdict-of (record { number = 0; line = 0; scan = v }) D ≡ take-row (whole s C) r
     unfolding verdict-of
-    row-passed v f z e = ap passed e ∙ sym (passed-on f z)
+    row-passed v D f z e d = ap (λ (x : List ℕ). passed (whole v x)) d ∙ ap passed (e C) ∙ sym (passed-on f z)
 
-    pub begun-small : {n : ℕ} → Small s → n ≡ fault s t r → n ≡ 0 → Small t
+    pub begun-small : {n : ℕ} → Small (whole s C) → n ≡ fault (whole s C) (whole t C) r → n ≡ 0 → Small (whole t [])
     begun-small w f z =
-        let x = passes s r (taken t r) (passed-on f z) .accepted in
-        subst Small (sym g) (small-begun r w (x .set-small) (x .rule-small))
+        let x = passes (whole s C) r (taken (whole t C) r) (passed-on f z) .accepted in
+        small-any t C [] (subst Small (sym (g C)) (small-begun r w (x .set-small) (x .rule-small)))

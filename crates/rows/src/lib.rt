@@ -1,30 +1,46 @@
 // The tests on the rows of a program, in the order 5, 3, 4. Each is made of `&`, `|` and `!`, which the model's `&&`, `||` and
 // `not` are.
 use model::Row;
-use model::Scan;
 ghost use mathlib.Core.Path.{_≡_};
-ghost use Prim.Native.Nat.{_≤_};
+ghost use mathlib.Core.List.{List, []};
+ghost use Prim.Native.Nat.{ℕ, _≤_};
+ghost use lib.ListN.{length, replicate};
 ghost use Rattle.lists.specs.Lists.{bit as bit-of};
 ghost use Rattle.model.specs.Load.{same-rule, lacking as is-lacking, part-full, too-many, in-order, atom-row, ceiling-row, set-0-row, query as is-query, names-atom, names-instance, new-variable, action as is-action, plan-step, begun as as-begun, rule-row, against-kind, breaks as is-breaking, valueless as is-valueless, give as given-one, gives as given-all, with-ceiling, taken as after-row, fault as fault-of, take-row, at-first};
 ghost use Rattle.model.specs.Render.{in-range};
-ghost use Rattle.rows.specs.Scanning.{Small, verdict-of};
+ghost use Rattle.rows.specs.Scanning.{whole, Small, verdict-of};
 
-fn same_rule(s: Scan, r: Row) -> bool
-    ensures { λ b. ⌜ b ≡ same-rule s r ⌝ }
+// Where a load stands after the rows so far, but for the ceilings: as the model's `Scan`. The ceilings are lent beside it, a 1 at each
+// predicate that has one.
+pub struct RuleScan {
+    pub count: u32,
+    pub atoms: u32,
+    pub set: u32,
+    pub rule: u32,
+    pub part: u32,
+    pub reasons: u32,
+    pub context: u32,
+    pub body: u32,
+    pub object: bool,
+    pub valued: [u8; 9],
+}
+
+fn same_rule(s: RuleScan, r: Row) -> bool
+    ensures { λ b. ⌜ b ≡ same-rule (whole s []) r ⌝ }
 {
     (r.set == s.set) & (r.rule == s.rule)
 }
 
 // "one row at least in parts 1 and 2 together. With reasons it is an object rule, otherwise a meta rule with a body of one row or more."
-pub fn lacking(s: Scan) -> bool
-    ensures { λ b. ⌜ b ≡ is-lacking s ⌝ }
+pub fn lacking(s: RuleScan) -> bool
+    ensures { λ b. ⌜ b ≡ is-lacking (whole s []) ⌝ }
 {
     (1 <= s.set) & (s.reasons == 0) & ((s.context == 0) | (s.body == 0))
 }
 
 // "up to 4 rows of part 1 (reasons), 6 of part 2 (context), 8 of part 3 (body)"
-fn part_full(s: Scan, r: Row) -> bool
-    ensures { λ b. ⌜ b ≡ part-full s r ⌝ }
+fn part_full(s: RuleScan, r: Row) -> bool
+    ensures { λ b. ⌜ b ≡ part-full (whole s []) r ⌝ }
 {
     (r.part == 1) & (4 <= s.reasons)
         | (r.part == 2) & (6 <= s.context)
@@ -32,8 +48,8 @@ fn part_full(s: Scan, r: Row) -> bool
 }
 
 // 5: "set over 8, rule over 32, too many rows (in all or of a part) or initial atoms"
-fn too_many(s: Scan, r: Row) -> bool
-    ensures { λ b. ⌜ b ≡ too-many s r ⌝ }
+fn too_many(s: RuleScan, r: Row) -> bool
+    ensures { λ b. ⌜ b ≡ too-many (whole s []) r ⌝ }
 {
     (8 < r.set)
         | (32 < r.rule)
@@ -43,9 +59,9 @@ fn too_many(s: Scan, r: Row) -> bool
 }
 
 // 3: "both numbered from 1 without gaps, rows by set, rule, part"
-fn in_order(s: Scan, r: Row) -> bool
-    requires { ⌜ Small s ⌝ }
-    ensures { λ b. ⌜ b ≡ in-order s r ⌝ }
+fn in_order(s: RuleScan, r: Row) -> bool
+    requires { ⌜ Small (whole s []) ⌝ }
+    ensures { λ b. ⌜ b ≡ in-order (whole s []) r ⌝ }
 {
     let next_set = s.set + 1;
     let next_rule = s.rule + 1;
@@ -62,22 +78,25 @@ fn atom_row(r: Row) -> bool
 }
 
 // 3: "op 40 a ceiling, at most one per predicate", "a (1 to 65,535) is taken as predicate b (1 to 255)"
-fn ceiling_row(s: Scan, r: Row) -> bool
-    requires { ⌜ r .p ≤ 255 ⌝ }
-    ensures { λ b. ⌜ b ≡ ceiling-row s r ⌝ }
+fn ceiling_row(s: RuleScan, ceilings: &[u8], r: Row) -> bool
+    requires { ⌜ (length (now ceilings) ≡ 256) × (r .p ≤ 255) ⌝ }
+    ensures { λ b. ⌜ b ≡ ceiling-row (whole s (now (ceilings .entry))) r ⌝ }
 {
-    let table = s.ceilings;
     let at = r.p as usize;
-    let ceiling = table[at];
+    let ceiling = ceilings[at];
     (r.op == 40) & ((10 <= r.a) & (r.a <= 65544)) & ((10 <= r.b) & (r.b <= 264)) & (ceiling == 0)
 }
 
 // 3: "Set 0 rows have rule 0, part 0"
-fn set_0_row(s: Scan, r: Row) -> bool
-    requires { ⌜ r .p ≤ 255 ⌝ }
-    ensures { λ b. ⌜ b ≡ set-0-row s r ⌝ }
+fn set_0_row(s: RuleScan, ceilings: &[u8], r: Row) -> bool
+    requires { ⌜ (length (now ceilings) ≡ 256) × (r .p ≤ 255) ⌝ }
+    ensures { λ b. ⌜ b ≡ set-0-row (whole s (now (ceilings .entry))) r ⌝ }
 {
-    (r.rule == 0) & (r.part == 0) & (1 <= r.p) & (r.i == 9) & (atom_row(r) | ceiling_row(s, r))
+    (r.rule == 0)
+        & (r.part == 0)
+        & (1 <= r.p)
+        & (r.i == 9)
+        & (atom_row(r) | ceiling_row(s, ceilings, r))
 }
 
 // 3: "Queries: 1 atom (i, p, a, b); 3 plan (i, a set, b rule); 5 remainder (i, a steps left); 7 justification (i plan, a atom);
@@ -106,7 +125,7 @@ fn names_instance(r: Row) -> bool
 }
 
 // A variable that has no value yet.
-fn new_variable(valued: [u8; 9], x: u32) -> bool
+pub fn new_variable(valued: [u8; 9], x: u32) -> bool
     ensures { λ b. ⌜ b ≡ new-variable valued x ⌝ }
 {
     if x < 1 {
@@ -121,8 +140,8 @@ fn new_variable(valued: [u8; 9], x: u32) -> bool
 
 // 3: "Actions of meta rules: 21 add-atom p, a, b, its id going to variable i, which has no value yet, or i = -9; 22 delete-atom i;
 // 23 set and 24 clear flag a (constant 1 to 16) of plan i; 25 delete-plan i."
-fn action(s: Scan, r: Row) -> bool
-    ensures { λ b. ⌜ b ≡ is-action s r ⌝ }
+fn action(s: RuleScan, r: Row) -> bool
+    ensures { λ b. ⌜ b ≡ is-action (whole s []) r ⌝ }
 {
     let valued = s.valued;
     (r.op == 21) & names_atom(r) & ((r.i == 0) | new_variable(valued, r.i))
@@ -141,8 +160,8 @@ fn plan_step(r: Row) -> bool
 }
 
 // 3: "Reasons use 1; an object rule's context 1 and 2; a meta rule's context 1 to 14."
-fn rule_row(s: Scan, r: Row) -> bool
-    ensures { λ b. ⌜ b ≡ rule-row s r ⌝ }
+fn rule_row(s: RuleScan, r: Row) -> bool
+    ensures { λ b. ⌜ b ≡ rule-row (whole s []) r ⌝ }
 {
     (r.part == 1) & (r.op == 1) & query(r)
         | (r.part == 2) & query(r) & (!s.object | (r.op <= 2))
@@ -151,8 +170,8 @@ fn rule_row(s: Scan, r: Row) -> bool
 }
 
 // 3: "A set holds one kind, that of its first rule; a row against it is 3."
-fn against_kind(s: Scan, r: Row) -> bool
-    ensures { λ b. ⌜ b ≡ against-kind s r ⌝ }
+fn against_kind(s: RuleScan, r: Row) -> bool
+    ensures { λ b. ⌜ b ≡ against-kind (whole s []) r ⌝ }
 {
     (r.set == s.set)
         & !((r.set == s.set) & (r.rule == s.rule))
@@ -160,14 +179,13 @@ fn against_kind(s: Scan, r: Row) -> bool
 }
 
 // The scan as the row finds it. "A rule whose first row is of part 2 or 3 counts as meta from that row."
-fn begun(s: Scan, r: Row) -> Scan
-    ensures { λ t. ⌜ t ≡ as-begun s r ⌝ }
+pub fn begun(s: RuleScan, r: Row) -> RuleScan
+    ensures { λ t. ⌜ ((c : List ℕ) → whole t c ≡ as-begun (whole s c) r) ⌝ }
 {
     if same_rule(s, r) {
         return s;
     }
-    let ceilings = s.ceilings;
-    Scan {
+    RuleScan {
         count: s.count,
         atoms: s.atoms,
         set: r.set,
@@ -178,25 +196,23 @@ fn begun(s: Scan, r: Row) -> Scan
         body: 0,
         object: r.part == 1,
         valued: [0u8; 9],
-        ceilings,
     }
 }
 
 // 3: "row breaks a rule of its op, part or order"; s is the scan before the row, t as the row finds it
-fn breaks(s: Scan, t: Scan, r: Row) -> bool
-    requires { ⌜ Small s ⌝ }
-    requires { ⌜ r .p ≤ 255 ⌝ }
-    ensures { λ b. ⌜ b ≡ is-breaking s t r ⌝ }
+fn breaks(s: RuleScan, t: RuleScan, ceilings: &[u8], r: Row) -> bool
+    requires { ⌜ Small (whole s []) × (length (now ceilings) ≡ 256) × (r .p ≤ 255) ⌝ }
+    ensures { λ b. ⌜ b ≡ is-breaking (whole s (now (ceilings .entry))) (whole t (now (ceilings .entry))) r ⌝ }
 {
     !in_order(s, r)
         | against_kind(s, r)
-        | (r.set == 0) & !set_0_row(s, r)
+        | (r.set == 0) & !set_0_row(s, ceilings, r)
         | (1 <= r.set) & !rule_row(t, r)
 }
 
 // 4: "body variable without value"
-fn valueless(s: Scan, r: Row) -> bool
-    ensures { λ b. ⌜ b ≡ is-valueless s r ⌝ }
+fn valueless(s: RuleScan, r: Row) -> bool
+    ensures { λ b. ⌜ b ≡ is-valueless (whole s []) r ⌝ }
 {
     let valued = s.valued;
     (r.part == 3)
@@ -235,17 +251,13 @@ fn gives(r: Row, valued: [u8; 9]) -> [u8; 9]
     valued
 }
 
-fn with_ceiling(r: Row, table: [u8; 256]) -> [u8; 256]
-    requires { ⌜ r .p ≤ 255 ⌝ }
-    ensures { λ t. ⌜ t ≡ with-ceiling r table ⌝ }
+fn mark_ceiling(ceilings: &mut [u8], r: Row)
+    requires { ⌜ (length (now ceilings) ≡ 256) × (r .p ≤ 255) ⌝ }
+    ensures { λ _. ⌜ now (ceilings .exit) ≡ with-ceiling r (now (ceilings .entry)) ⌝ }
 {
-    let mut t = table;
-    let new = (r.set == 0) & (r.op == 40);
-    if new {
-        let at = r.p as usize;
-        t[at] = 1;
+    if (r.set == 0) & (r.op == 40) {
+        ceilings[r.p as usize] = 1;
     }
-    t
 }
 
 fn bit(b: bool) -> u32
@@ -255,16 +267,13 @@ fn bit(b: bool) -> u32
 }
 
 // The scan after the row.
-fn taken(s: Scan, r: Row) -> Scan
-    requires { ⌜ Small s ⌝ }
-    requires { ⌜ r .p ≤ 255 ⌝ }
-    ensures { λ t. ⌜ t ≡ after-row s r ⌝ }
+fn taken(s: RuleScan, r: Row) -> RuleScan
+    requires { ⌜ Small (whole s []) ⌝ }
+    ensures { λ t. ⌜ ((c : List ℕ) → whole t (with-ceiling r c) ≡ after-row (whole s c) r) ⌝ }
 {
     let v = s.valued;
-    let table = s.ceilings;
     let valued = gives(r, v);
-    let ceilings = with_ceiling(r, table);
-    Scan {
+    RuleScan {
         count: s.count + 1,
         atoms: s.atoms + bit((r.set == 0) & (r.op == 41)),
         set: r.set,
@@ -275,20 +284,18 @@ fn taken(s: Scan, r: Row) -> Scan
         body: s.body + bit(r.part == 3),
         object: s.object,
         valued,
-        ceilings,
     }
 }
 
 // "on each 2, 5, 3, 4": the refusal that a readable row meets, or 0.
-fn fault(s: Scan, t: Scan, r: Row) -> u32
-    requires { ⌜ Small s ⌝ }
-    requires { ⌜ r .p ≤ 255 ⌝ }
-    ensures { λ n. ⌜ n ≡ fault-of s t r ⌝ }
+fn fault(s: RuleScan, t: RuleScan, ceilings: &[u8], r: Row) -> u32
+    requires { ⌜ Small (whole s []) × (length (now ceilings) ≡ 256) × (r .p ≤ 255) ⌝ }
+    ensures { λ n. ⌜ n ≡ fault-of (whole s (now (ceilings .entry))) (whole t (now (ceilings .entry))) r ⌝ }
 {
     if too_many(s, r) {
         return 5;
     }
-    if breaks(s, t, r) {
+    if breaks(s, t, ceilings, r) {
         return 3;
     }
     if valueless(t, r) {
@@ -301,15 +308,14 @@ fn fault(s: Scan, t: Scan, r: Row) -> u32
 pub struct Verdict {
     pub number: u32,
     pub line: u32,
-    pub scan: Scan,
+    pub scan: RuleScan,
 }
 
 // The tests on a readable row. "a rule lacking rows is 3 at its last line, found when a readable row of another rule or the end of
 // the text follows"
-pub fn take_row(s: Scan, r: Row) -> Verdict
-    requires { ⌜ Small s ⌝ }
-    requires { ⌜ r .p ≤ 255 ⌝ }
-    ensures { λ v. ⌜ verdict-of v ≡ take-row s r ⌝ }
+pub fn take_row(s: RuleScan, ceilings: &mut [u8], r: Row) -> Verdict
+    requires { ⌜ Small (whole s (now ceilings)) × (length (now ceilings) ≡ 256) × (r .p ≤ 255) ⌝ }
+    ensures { λ v. ⌜ verdict-of v (now (ceilings .exit)) ≡ take-row (whole s (now (ceilings .entry))) r ⌝ }
 {
     let left_lacking = lacking(s) & !same_rule(s, r);
     if left_lacking {
@@ -320,7 +326,7 @@ pub fn take_row(s: Scan, r: Row) -> Verdict
         };
     }
     let t = begun(s, r);
-    let number = fault(s, t, r);
+    let number = fault(s, t, ceilings, r);
     if number != 0 {
         return Verdict {
             number,
@@ -329,6 +335,7 @@ pub fn take_row(s: Scan, r: Row) -> Verdict
         };
     }
     let scan = taken(t, r);
+    mark_ceiling(ceilings, r);
     Verdict {
         number: 0,
         line: 0,
@@ -336,11 +343,11 @@ pub fn take_row(s: Scan, r: Row) -> Verdict
     }
 }
 
-// The scan before the first row.
-pub fn at_first() -> Scan
-    ensures { λ s. ⌜ s ≡ at-first ⌝ }
+// The scan before the first row, when no predicate has a ceiling.
+pub fn at_first() -> RuleScan
+    ensures { λ s. ⌜ whole s (replicate 256 0) ≡ at-first ⌝ }
 {
-    Scan {
+    RuleScan {
         count: 0,
         atoms: 0,
         set: 0,
@@ -351,7 +358,6 @@ pub fn at_first() -> Scan
         body: 0,
         object: false,
         valued: [0u8; 9],
-        ceilings: [0u8; 256],
     }
 }
 

@@ -6,22 +6,12 @@ use mathlib.Core.List.{List, [], _∷_}
 use mathlib.Core.Logic.{_≢_}
 use native.Mathlib.Omega.{arith}
 use lib.ListN.{length, drop, getD, drop-of-length-le}
-use borrow.Author.Tests.{eq-eqb, ne-eqb, le-leb, lt-leb}
-use Rattle.lists.specs.Lists.{if_then_else_, is-empty, within}
+use borrow.Author.Tests.{ne-eqb, le-leb, lt-leb}
 use Rattle.lists.proofs.Cuts.{within-in, within-below, within-above, drop-next}
 use Rattle.model.specs.Text.{digits, digit?}
-use Rattle.script.specs.declared.Number.{Number}
+use Rattle.program_laws.proofs.Digits.{digits-on, digits-off}
 use Rattle.script.specs.declared.Number.the-variants.{Value, Unreadable}
 use Rattle.script.specs.Reading.{whole, number-of}
-
-module _ (n c : ℕ) (cs : List ℕ) where
-  digits-on : digit? c ≡ true → digits n (c ∷ cs) ≡ digits (n * 10 + (c - 48)) cs
-  unfolding digits
-  digits-on e = rw (e, digits)
-
-  digits-off : digit? c ≡ false → digits n (c ∷ cs) ≡ (n, c ∷ cs)
-  unfolding digits
-  digits-off e = rw (e, digits)
 
 -- digits only raise what there is
 digits-rise : (n : ℕ) (cs : List ℕ) → n ≤ digits n cs .0

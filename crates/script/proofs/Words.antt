@@ -1,17 +1,18 @@
 -- Bytes compared, and spaces counted.
-use Prim.Native.Nat.{ℕ, suc, _+_, _≤_, _<_}
+use Prim.Native.Nat.{ℕ, suc, _+_, _-_, _≤_, _<_}
 use mathlib.Core.Path.{_≡_, refl, ap, _∙_, sym}
 use mathlib.Core.Bool.{Bool, true, false, _&&_}
-use mathlib.Core.List.{List, [], _∷_}
+use mathlib.Core.List.{List, [], _∷_, _++_, append-nil, append-assoc}
 use mathlib.Core.Logic.{_≢_, ⊎-elim}
 use native.Mathlib.Omega.{arith}
 use lib.Dec.{eqb}
-use lib.ListN.{length, drop, getD, drop-of-length-le}
+use lib.ListN.{length, take, drop, getD, length-drop, drop-of-length-le}
+use lib.Seq.{take-suc, getD-drop}
 use borrow.Author.Tests.{eq-eqb, ne-eqb}
 use Rattle.lists.specs.Lists.{same, bit, every}
 use Rattle.lists.proofs.Cuts.{drop-next}
 use Rattle.lists.proofs.Tables.{equal-or-not}
-use Rattle.script.specs.Reading.{spaces-in, passed-over}
+use Rattle.script.specs.Reading.{spaces-in, passed-over, first-word, WordEnds}
 
 -- two texts of one length, alike up to i
 pub record Alike (a b : List ℕ) (i : ℕ) : Type 0 where
@@ -136,3 +137,47 @@ module _ (line : List ℕ) where
       at : (l : List ℕ) → length l ≢ 0 → getD l 0 0 ≢ 35 → every (λ x. eqb x 32) l ≡ passed-over l
       at [] h d = absurd (h refl)
       at (c ∷ l) h d = rw (ne-eqb c 35 d)
+
+-- no space stands from `from` up to i
+pub record Unspaced (line : List ℕ) (from i : ℕ) : Type 0 where
+  pub low : from ≤ i
+  pub high : i ≤ length line
+  pub so-far : first-word (drop from line) ≡ take (i - from) (drop from line) ++ first-word (drop i line)
+
+pub unspaced : (line : List ℕ) (from : ℕ) → from ≤ length line → Unspaced line from from
+unspaced line from h = let e : from - from ≡ 0 = omega arith in record { low = omega arith; high = h; so-far = rw e }
+
+module _ {line : List ℕ} {from i : ℕ} (w : Unspaced line from i) where
+  word-stops : i < length line → getD line i 0 ≡ 32 → first-word (drop i line) ≡ []
+  unfolding first-word
+  word-stops h e = rw (drop-next 0 line i h, eq-eqb _ _ e)
+
+  word-goes-on : i < length line → getD line i 0 ≢ 32 → first-word (drop i line) ≡ getD line i 0 ∷ first-word (drop (i + 1) line)
+  unfolding first-word
+  word-goes-on h e = rw (drop-next 0 line i h, ne-eqb _ _ e)
+
+  line-stops : length line ≤ i → first-word (drop i line) ≡ []
+  unfolding first-word
+  line-stops h = rw (drop-of-length-le line {i = i} h)
+
+  word-ends : first-word (drop i line) ≡ [] → WordEnds line from i
+  word-ends e = record {
+    low = w .low;
+    high = w .high;
+    word = sym (w .so-far ∙ rw (e, append-nil));
+  }
+
+  pub ends-at-space : i < length line → getD line i 0 ≡ 32 → WordEnds line from i
+  ends-at-space h e = word-ends (word-stops h e)
+
+  pub ends-with-line : length line ≤ i → WordEnds line from i
+  ends-with-line h = word-ends (line-stops h)
+
+  pub unspaced-on : i < length line → getD line i 0 ≢ 32 → Unspaced line from (i + 1)
+  unspaced-on h n =
+      let l = w .low in
+      let e : i + 1 - from ≡ suc (i - from) = omega arith in
+      let g : getD (drop from line) (i - from) 0 ≡ getD line i 0 = let q : from + (i - from) ≡ i = omega arith in rw (getD-drop, q) in
+      let t : take (suc (i - from)) (drop from line) ≡ take (i - from) (drop from line) ++ (getD line i 0 ∷ [])
+      = take-suc (drop from line) (i - from) 0 (rw length-drop (omega arith)) ∙ ap (λ (x : ℕ). take (i - from) (drop from line) ++ (x ∷ [])) g in
+      record { low = omega arith; high = omega arith; so-far = rw (e, t, append-assoc) (w .so-far ∙ ap (λ (r : List ℕ). take (i - from) (drop from line) ++ r) (word-goes-on h n)) }

@@ -3,7 +3,7 @@ ghost use mathlib.Core.Path.{_≡_};
 ghost use Prim.Native.Nat.{_≤_};
 ghost use lib.ListN.{length, drop};
 ghost use Rattle.lists.specs.Lists.{same};
-ghost use Rattle.script.specs.Reading.{number-of, passed-over, spaces-in, Within};
+ghost use Rattle.script.specs.Reading.{number-of, passed-over, spaces-in, Within, WordEnds, Reads, Exact, InFours, cut-short, bench-named, command-named};
 
 pub enum Command {
     Load,
@@ -85,7 +85,7 @@ pub fn spaces(line: &[u8], from: usize) -> usize
 // Where a word ends that begins at a place: at the next space, or with the line.
 pub fn word_end(line: &[u8], from: usize) -> usize
     requires { ⌜ from ≤ length (now line) ⌝ }
-    ensures { λ r. ⌜ (from ≤ r) × (r ≤ length (now (line .entry))) ⌝ }
+    ensures { λ r. ⌜ WordEnds (now (line .entry)) from r ⌝ }
 {
     let mut i = from;
     while i < line.len() {
@@ -97,29 +97,10 @@ pub fn word_end(line: &[u8], from: usize) -> usize
     i
 }
 
-// The command that a word is.
-pub fn command_of(word: &[u8]) -> Command {
-    if is_same(word, b"load") {
-        return Command::Load;
-    }
-    if is_same(word, b"program") {
-        return Command::Program;
-    }
-    if is_same(word, b"sense") {
-        return Command::Sense;
-    }
-    if is_same(word, b"step") {
-        return Command::Step;
-    }
-    if is_same(word, b"answer") {
-        return Command::Answer;
-    }
-    if is_same(word, b"delete") {
-        return Command::Delete;
-    }
-    if is_same(word, b"run") {
-        return Command::Run;
-    }
+// The command of the bench that a word is.
+fn bench_command(word: &[u8]) -> Command
+    ensures { λ r. ⌜ r ≡ bench-named (now (word .entry)) ⌝ }
+{
     if is_same(word, b"trace") {
         return Command::Trace;
     }
@@ -142,6 +123,34 @@ pub fn command_of(word: &[u8]) -> Command {
         return Command::Clock;
     }
     Command::Unknown
+}
+
+// The command that a word is.
+pub fn command_of(word: &[u8]) -> Command
+    ensures { λ r. ⌜ r ≡ command-named (now (word .entry)) ⌝ }
+{
+    if is_same(word, b"load") {
+        return Command::Load;
+    }
+    if is_same(word, b"program") {
+        return Command::Program;
+    }
+    if is_same(word, b"sense") {
+        return Command::Sense;
+    }
+    if is_same(word, b"step") {
+        return Command::Step;
+    }
+    if is_same(word, b"answer") {
+        return Command::Answer;
+    }
+    if is_same(word, b"delete") {
+        return Command::Delete;
+    }
+    if is_same(word, b"run") {
+        return Command::Run;
+    }
+    bench_command(word)
 }
 
 // A number from 0 to 4,294,967,295 in base ten, with no sign and no leading zero.
@@ -180,6 +189,7 @@ pub fn read_number(word: &[u8]) -> Number
 fn numbers(line: &[u8], from: usize, out: &mut [u32]) -> Found
     requires { ⌜ (from ≤ length (now line)) × (length (now line) ≤ length (now out)) ⌝ }
     ensures { λ r. ⌜ Within (length (now (line .entry))) r ⌝ }
+    ensures read { λ r. ⌜ Reads (now (line .entry)) from (now (out .entry)) (now (out .exit)) r ⌝ }
 {
     let mut at = from;
     let mut k: usize = 0;
@@ -204,6 +214,7 @@ fn numbers(line: &[u8], from: usize, out: &mut [u32]) -> Found
 pub fn exactly(line: &[u8], from: usize, wanted: usize, out: &mut [u32]) -> Found
     requires { ⌜ (from ≤ length (now line)) × (length (now line) ≤ length (now out)) ⌝ }
     ensures { λ r. ⌜ Within (length (now (line .entry))) r ⌝ }
+    ensures read { λ r. ⌜ Exact (now (line .entry)) from wanted (now (out .entry)) (now (out .exit)) r ⌝ }
 {
     let there = spaces(line, from);
     if there != wanted {
@@ -212,10 +223,33 @@ pub fn exactly(line: &[u8], from: usize, wanted: usize, out: &mut [u32]) -> Foun
     numbers(line, from, out)
 }
 
+// What is told where the last row lacks numbers: a word of a whole row that is none comes before it.
+fn cut_short(found: Found, whole: usize, over: usize) -> Found
+    ensures { λ r. ⌜ r ≡ cut-short whole over found ⌝ }
+{
+    match found {
+        Found::NoNumber { k, from, to } => {
+            if whole <= k {
+                return Found::Miscounted {
+                    wanted: 4,
+                    there: over,
+                };
+            }
+            Found::NoNumber { k, from, to }
+        }
+        Found::Numbers(_) => Found::Miscounted {
+            wanted: 4,
+            there: over,
+        },
+        Found::Miscounted { wanted, there } => Found::Miscounted { wanted, there },
+    }
+}
+
 // Rows of four numbers. Whole rows are read before the count of the last is told.
 pub fn in_fours(line: &[u8], from: usize, out: &mut [u32]) -> Found
     requires { ⌜ (from ≤ length (now line)) × (length (now line) ≤ length (now out)) ⌝ }
     ensures { λ r. ⌜ Within (length (now (line .entry))) r ⌝ }
+    ensures read { λ r. ⌜ InFours (now (line .entry)) from (now (out .entry)) (now (out .exit)) r ⌝ }
 {
     let there = spaces(line, from);
     let over = there % 4;
@@ -223,17 +257,5 @@ pub fn in_fours(line: &[u8], from: usize, out: &mut [u32]) -> Found
     if over == 0 {
         return found;
     }
-    let Found::NoNumber { k, from, to } = found else {
-        return Found::Miscounted {
-            wanted: 4,
-            there: over,
-        };
-    };
-    if there - over <= k {
-        return Found::Miscounted {
-            wanted: 4,
-            there: over,
-        };
-    }
-    Found::NoNumber { k, from, to }
+    cut_short(found, there - over, over)
 }

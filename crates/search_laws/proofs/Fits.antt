@@ -97,12 +97,6 @@ module _ (r : Row) (k : Candidate) (v : List ℕ) where
   unfolding fit
   in-fits w f = in-bind _ (in-meets (r .i) (k .i) v (f .after-i) (f .meets-i)) (in-bind _ (in-meets (r .a) (k .a) (f .after-i) (f .after-a) (f .meets-a)) (in-meets (r .b) (k .b) (f .after-a) w (f .meets-b)))
 
-  pub fits-one : (w u : List ℕ) → Fits r k v w → Fits r k v u → w ≡ u
-  fits-one w u f g =
-      let p : f .after-i ≡ g .after-i = meets-one (r .i) (k .i) v (f .after-i) (g .after-i) (f .meets-i) (g .meets-i) in
-      let q : f .after-a ≡ g .after-a = meets-one (r .a) (k .a) (g .after-i) (f .after-a) (g .after-a) (rw p at (f .meets-a)) (g .meets-a) in
-      meets-one (r .b) (k .b) (g .after-a) w u (rw q at (f .meets-b)) (g .meets-b)
-
 module _ (c : Config) (r : Row) (f : Found) where
   pub takes : (k : Candidate) → In k (candidates c r) → (w : List ℕ) → Fits r k (f .values) w → Takes c r k f (found r k f w)
   unfolding found

@@ -8,9 +8,10 @@ use native.Mathlib.Omega.{arith}
 use lib.Dec.{leb, ltb, eqb}
 use lib.ListN.{length}
 use borrow.Author.Tests.{leb-true, leb-false, ltb-true, ltb-false, lt-ltb, le-ltb, eqb-true, eqb-false, eq-eqb}
-use Rattle.lists.specs.Lists.{In, first, later, Pairs, keep, count-up}
-use Rattle.lists.proofs.Lists.{test, clash, map-append}
-use Rattle.lists.proofs.Tests.{or-cases, map-pairs, count-up-append}
+use Rattle.lists.specs.Lists.{In, later, Pairs, keep, count-up}
+use Rattle.lists.proofs.Search.{in-count-up}
+use Rattle.lists.proofs.Lists.{test, clash, map-append, or-cases}
+use Rattle.lists.proofs.Tests.{map-pairs, count-up-append}
 use Rattle.lists.proofs.Bind.{append-nil, keep-append}
 use Rattle.model.specs.declared.Row.{Row}
 use Rattle.model.specs.Program.{part-of}
@@ -65,13 +66,9 @@ rows-ordered : (words : List ℕ) → Pairs NotLater (rows-of words) → (i j : 
 unfolding rows-of
 rows-ordered words o i j h k = at 0 (length words / 8) (map-pairs NotLater (row-at words) (count-up 0 (length words / 8)) o) (omega arith) (omega arith)
   where
-    in-run : (k n x : ℕ) → k ≤ x → x < k + n → In x (count-up k n)
-    in-run k zero x a b = absurd (omega arith)
-    in-run k (suc n) x a b = ⊎-elim (λ e. first (eqb-true x k e)) (λ e. later (in-run (suc k) n x (let d = eqb-false x k e in omega arith) (omega arith))) (test (eqb x k))
-
     at : (k n : ℕ) → Pairs (λ x y. NotLater (row-at words x) (row-at words y)) (count-up k n) → k ≤ i → j < k + n → NotLater (row-at words i) (row-at words j)
     at k zero p a b = absurd (omega arith)
-    at k (suc n) p a b = ⊎-elim (λ e. let d = eqb-true i k e in rw d (p .0 j (in-run (suc k) n j (omega arith) (omega arith)))) (λ e. at (suc k) n (p .1) (let d = eqb-false i k e in omega arith) (omega arith)) (test (eqb i k))
+    at k (suc n) p a b = ⊎-elim (λ e. let d = eqb-true i k e in rw d (p .0 j (in-count-up (suc k) n j (omega arith) (omega arith)))) (λ e. at (suc k) n (p .1) (let d = eqb-false i k e in omega arith) (omega arith)) (test (eqb i k))
 
 -- the rows between two bounds
 module _ (words : List ℕ) (f : Row → Bool) where

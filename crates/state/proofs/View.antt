@@ -1,20 +1,20 @@
 -- Laws of what the words say: atoms and plans by their places, their columns, their ids.
-use mathlib.Core.Path.{_≡_, refl, ap, sym, _∙_}
-use mathlib.Core.List.{List, [], _∷_, _++_}
-use Prim.Native.Nat.{ℕ, _+_, _-_, _*_, _<_}
+use mathlib.Core.Path.{_≡_, refl, sym, _∙_}
+use mathlib.Core.List.{List, [], _∷_}
+use Prim.Native.Nat.{ℕ, _+_, _-_, _<_}
 use native.Mathlib.Omega.{arith}
-use lib.ListN.{length, take, drop, getD, length-drop, take-append-drop}
-use lib.Seq.{getD-drop, getD-take, length-take-le, take-all}
+use lib.ListN.{length, take, drop, getD, length-drop}
+use lib.Seq.{getD-drop, getD-take, length-take-le}
 use Rattle.lists.specs.Lists.{Pairs}
 use Rattle.lists.specs.Tables.{tabulate, trimmed}
 use Rattle.lists.proofs.Lists.{pairs-map}
-use Rattle.lists.proofs.Tables.{get-within, tabulate-get, tabulate-map, trimmed-at, trimmed-same}
+use Rattle.lists.proofs.Tables.{get-within, tabulate-get, tabulate-map, trimmed-at}
 use Rattle.lists.proofs.Counted.{trimmed-four}
 use Rattle.table.specs.Rows.{row, key, keys}
 use Rattle.table.proofs.Rows.{row-long}
 use Rattle.model.specs.declared.Atom.{Atom}
 use Rattle.model.specs.Configuration.{Plan, no-value}
-use Rattle.state.specs.View.{plan-of, atom-at, plan-at, atoms-of, plans-of, atom-ids-of, plan-ids-of, AtomsRise, PlansRise, plan-word}
+use Rattle.state.specs.View.{atom-at, plan-at, atoms-of, plans-of, atom-ids-of, plan-ids-of, AtomsRise, PlansRise, plan-word}
 
 -- the columns of a plan
 module _ (l : List ℕ) (k : ℕ) where
@@ -91,29 +91,3 @@ atom-keys-rise n l h = rw (atom-keys n l) (pairs-map (λ (x y : ℕ). x < y) (λ
 
 pub plan-keys-rise : (n : ℕ) (l : List ℕ) → PlansRise n l → Pairs (λ (x y : ℕ). x < y) (keys 18 n (drop 1280 l))
 plan-keys-rise n l h = rw (plan-keys n l) (pairs-map (λ (x y : ℕ). x < y) (λ (q : Plan). q .id) (plans-of n l) h)
-
--- no place of a plan's words is unused: equal plans have equal words
-pub plan-words-same : (r t : List ℕ) → length r ≡ 18 → length t ≡ 18 → plan-of r ≡ plan-of t → r ≡ t
-plan-words-same r t hr ht e = apart r hr ∙ joined ∙ sym (apart t ht)
-  where
-    whole : Plan → List ℕ → List ℕ
-    whole q js = q .id ∷ q .set ∷ q .rule ∷ q .left ∷ q .flags ∷ q .subgoal ∷ js ++ q .values
-
-    apart : (r : List ℕ) → length r ≡ 18 → r ≡ whole (plan-of r) (take 4 (drop 6 r))
-    apart [] h = absurd (omega arith)
-    apart (a ∷ []) h = absurd (omega arith)
-    apart (a ∷ b ∷ []) h = absurd (omega arith)
-    apart (a ∷ b ∷ c ∷ []) h = absurd (omega arith)
-    apart (a ∷ b ∷ c ∷ d ∷ []) h = absurd (omega arith)
-    apart (a ∷ b ∷ c ∷ d ∷ x ∷ []) h = absurd (omega arith)
-    apart (a ∷ b ∷ c ∷ d ∷ x ∷ y ∷ l) h =
-        let z : length (drop 4 l) ≡ length l - 4 = length-drop 4 l in
-        let w : l ≡ take 4 l ++ take 8 (drop 4 l) = sym (ap (λ (m : List ℕ). take 4 l ++ m) (take-all 8 (drop 4 l) (omega arith)) ∙ take-append-drop 4 l) in
-        ap (λ (m : List ℕ). a ∷ b ∷ c ∷ d ∷ x ∷ y ∷ m) w
-
-    joined : whole (plan-of r) (take 4 (drop 6 r)) ≡ whole (plan-of t) (take 4 (drop 6 t))
-    joined =
-        let a : length (take 4 (drop 6 r)) ≡ 4 = length-take-le 4 (drop 6 r) (omega (arith, length-drop 6 r)) in
-        let b : length (take 4 (drop 6 t)) ≡ 4 = length-take-le 4 (drop 6 t) (omega (arith, length-drop 6 t)) in
-        let j : take 4 (drop 6 r) ≡ take 4 (drop 6 t) = trimmed-same (take 4 (drop 6 r)) (take 4 (drop 6 t)) (a ∙ sym b) (ap (λ (q : Plan). q .justifications) e) in
-        λ i. whole (e i) (j i)

@@ -1,10 +1,10 @@
 -- Several tables in one list of words, each a part of it: what a call on one part does to the others.
 use mathlib.Core.Path.{_≡_, ap, sym, _∙_}
-use mathlib.Core.List.{List, _++_, append-assoc, append-nil}
+use mathlib.Core.List.{List, _++_, append-nil}
 use Prim.Native.Nat.{ℕ, _+_, _-_, _≤_}
 use native.Mathlib.Omega.{arith}
-use lib.ListN.{length, take, drop, length-append, length-drop, take-append-drop, drop-of-length-le}
-use lib.Seq.{take-at, drop-at, drop-append-le, take-append-le, drop-append-add, drop-drop, length-take-le, take-all}
+use lib.ListN.{length, take, drop, length-drop, take-append-drop, drop-of-length-le}
+use lib.Seq.{drop-at, drop-append-le, take-append-le, length-take-le, take-all}
 
 -- what a call on the words a to a + k is given
 abbrev pub part : ℕ → ℕ → List ℕ → List ℕ
@@ -21,19 +21,9 @@ front b m A X h =
     let h2 : m ≤ length (drop b A) = omega arith in
     rw (drop-append-le, take-append-le)
 
-past : (b m n : ℕ) (A W : List ℕ) → length A ≡ n → n ≤ b → part b m (A ++ drop n W) ≡ part b m W
-past b m n A W e h =
-    let q : length A + (b - n) ≡ b = omega arith in
-    let q2 : n + (b - n) ≡ b = omega arith in
-    rw (← q, drop-append-add A (drop n W) (b - n), drop-drop (b - n) n W, q2, q)
-
 module _ (a k : ℕ) (W ys : List ℕ) (fits : a + k ≤ length W) (long : length ys ≡ k) where
   a-long : length (take a W) ≡ a
   a-long = length-take-le a W (omega arith)
-
-  -- the part itself
-  pub part-same : part a k (with-part a k W ys) ≡ ys
-  part-same = rw (drop-at (take a W) (ys ++ drop k (drop a W)) a a-long) (take-at ys (drop k (drop a W)) k long)
 
   -- a part before it
   pub part-before : (b m : ℕ) → b + m ≤ a → part b m (with-part a k W ys) ≡ part b m W
@@ -42,16 +32,6 @@ module _ (a k : ℕ) (W ys : List ℕ) (fits : a + k ≤ length W) (long : lengt
       front b m (take a W) (ys ++ drop k (drop a W)) (omega arith)
       ∙ sym (front b m (take a W) (drop a W) (omega arith))
       ∙ ap (part b m) (take-append-drop a W)
-
-  -- a part behind it
-  pub part-after : (b m : ℕ) → a + k ≤ b → part b m (with-part a k W ys) ≡ part b m W
-  part-after b m h =
-      let z = a-long in
-      let l : length (take a W ++ ys) ≡ a + k = simp length-append (omega arith) in
-      rw (drop-drop k a W, ← append-assoc (take a W) ys (drop (a + k) W)) (past b m (a + k) (take a W ++ ys) W l h)
-
-  pub with-part-long : length (with-part a k W ys) ≡ length W
-  with-part-long = let z = a-long in let d = length-drop k (drop a W) in let e = length-drop a W in simp length-append (omega arith)
 
 -- a part that reaches to the end
 module _ (a : ℕ) (W ys : List ℕ) where
@@ -62,9 +42,3 @@ module _ (a : ℕ) (W ys : List ℕ) where
   rest-same h =
       let e : length (drop a W) ≤ length W - a = simp length-drop (omega arith) in
       drop-at (take a W) (ys ++ drop (length W - a) (drop a W)) a (length-take-le a W h) ∙ rw (drop-of-length-le (drop a W) e) (append-nil ys)
-
-  pub rest-before : a ≤ length W → take a (with-part a (length W - a) W ys) ≡ take a W
-  rest-before h = take-at (take a W) (ys ++ drop (length W - a) (drop a W)) a (length-take-le a W h)
-
-  pub rest-long : length ys ≡ length W - a → a ≤ length W → length (with-part a (length W - a) W ys) ≡ length W
-  rest-long e h = with-part-long a (length W - a) W ys (omega arith) e

@@ -3,14 +3,14 @@ use mathlib.Core.Path.{_≡_, refl, ap, sym, _∙_}
 use mathlib.Core.List.{List, [], _∷_, _++_, append-assoc}
 use mathlib.Core.Logic.{⊎-elim, _≢_}
 use Prim.Native.Nat.{ℕ, suc, _+_, _-_, _*_, _<_, _≤_}
-use native.Mathlib.Nat.{mul-le-mul-right, le-mul-of-pos-right, suc-mul, add-zero}
+use native.Mathlib.Nat.{mul-le-mul-right, suc-mul, add-zero}
 use native.Mathlib.Numerals.{add-one}
 use native.Mathlib.Omega.{arith}
 use lib.ListN.{length, take, drop, getD, set, take-append-drop, length-drop, length-map, List·getD-map}
 use lib.Seq.{take-take, drop-set-add, take-set-lt, take-set-le, drop-set-lt, paste, paste-suc, length-paste, take-at, drop-at, drop-append-add, take-append-le, drop-append-le, getD-take, getD-drop, take-add, drop-drop, length-take-le, take-all, getD-append-add, length-paste-head}
 use Rattle.lists.specs.Lists.{Pairs}
 use Rattle.lists.specs.Tables.{index-of}
-use Rattle.lists.proofs.Tables.{equal-or-not, less-or-more, pairs-get, tabulate-length, tabulate-at, tabulate-append, tabulate-set, index-is}
+use Rattle.lists.proofs.Tables.{equal-or-not, less-or-more, pairs-get, tabulate-length, tabulate-at, tabulate-append, index-is}
 use Rattle.table.specs.Rows.{row, rows, placed, key, keys}
 
 -- the records before k end where k starts, at the latest
@@ -19,10 +19,6 @@ below i k w h =
     let e : suc i * w ≤ k * w = mul-le-mul-right w (omega arith) in
     let s : suc i * w ≡ i * w + w = suc-mul i w in
     omega arith
-
--- records of width 1 or more are no more than their numbers
-pub count-le : (n w : ℕ) → 0 < w → n ≤ n * w
-count-le n w h = le-mul-of-pos-right n h
 
 -- a number of a record
 pub row-at : (w : ℕ) (l : List ℕ) (k j : ℕ) → j < w → getD (row w l k) j 0 ≡ getD l (k * w + j) 0
@@ -107,10 +103,6 @@ module _ (w : ℕ) (l : List ℕ) (k : ℕ) (r : List ℕ) (lr : length r ≡ w)
       let b : k * w + w ≤ i * w = below k i w h in
       row-past w (take (k * w) l ++ take w r) l (k * w + w) i head-long b
 
-  -- another record
-  pub placed-other : (i : ℕ) → i ≢ k → row w (placed w l k r) i ≡ row w l i
-  placed-other i ne = ⊎-elim (placed-before i) (placed-after i) (less-or-more i k ne)
-
   -- the words behind it
   pub placed-behind : (a : ℕ) → k * w + w ≤ a → drop a (placed w l k r) ≡ drop a l
   unfolding placed
@@ -123,10 +115,6 @@ module _ (w : ℕ) (l : List ℕ) (k : ℕ) (r : List ℕ) (lr : length r ≡ w)
   -- the records and one more
   pub rows-append : rows w (k + 1) (placed w l k r) ≡ rows w k l ++ (r ∷ [])
   rows-append = tabulate-append k (row w l) (row w (placed w l k r)) r placed-before placed-same
-
-  -- one of the records
-  pub rows-write : (n : ℕ) → k < n → rows w n (placed w l k r) ≡ set (rows w n l) k r
-  rows-write n h = tabulate-set n (row w l) (row w (placed w l k r)) k r h placed-other placed-same
 
 -- one number of a record changed
 pub row-set-same : (w : ℕ) (l : List ℕ) (k e v : ℕ) → e < w → row w (set l (k * w + e) v) k ≡ set (row w l k) e v

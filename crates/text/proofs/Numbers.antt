@@ -1,4 +1,4 @@
--- `digits` and `counting`, clause by clause, and numbers over 65,535 taken as 65,536.
+-- Numbers digit by digit, those over 65,535 taken as 65,536.
 use Prim.Native.Nat.{ℕ, _+_, _*_, _-_, _≤_, _<_, min}
 use mathlib.Core.Path.{_≡_, refl, ap, _∙_, sym}
 use mathlib.Core.Bool.{Bool, true, false}
@@ -7,25 +7,9 @@ use native.Mathlib.Omega.{arith}
 use lib.ListN.{length, drop, getD, drop-of-length-le}
 use Rattle.lists.specs.Lists.{within}
 use Rattle.model.specs.Text.{digits, counting, digit?}
+use Rattle.program_laws.proofs.Digits.{digits-on, digits-off, counting-on, counting-off}
 use Rattle.text.specs.Reading.{Counted}
 use Rattle.lists.proofs.Cuts.{within-in, within-below, within-above, drop-next}
-
-module _ (n c : ℕ) (cs : List ℕ) where
-  pub digits-on : digit? c ≡ true → digits n (c ∷ cs) ≡ digits (n * 10 + (c - 48)) cs
-  unfolding digits
-  digits-on e = rw (e, digits)
-
-  pub digits-off : digit? c ≡ false → digits n (c ∷ cs) ≡ (n, c ∷ cs)
-  unfolding digits
-  digits-off e = rw (e, digits)
-
-  pub counting-on : within 49 57 c ≡ true → counting (c ∷ cs) ≡ digits (c - 48) cs
-  unfolding counting
-  counting-on e = rw e
-
-  pub counting-off : within 49 57 c ≡ false → counting (c ∷ cs) ≡ (0, c ∷ cs)
-  unfolding counting
-  counting-off e = rw e
 
 unfoldable pub capped : ℕ × List ℕ → ℕ × List ℕ
 capped d = (min (d .0) 65536, d .1)

@@ -125,22 +125,8 @@ impl Replay {
                     Err(n) => print_refusal(out, n)?,
                 }
             }
-            "answer" => {
-                let [n] = numbers(rest)?;
-                print_changed(
-                    out,
-                    "answered",
-                    plain::answer(&self.program, &mut self.config, n),
-                )?;
-            }
-            "delete" => {
-                let [id] = numbers(rest)?;
-                print_changed(
-                    out,
-                    "deleted",
-                    plain::delete(&self.program, &mut self.config, id),
-                )?;
-            }
+            "answer" => self.change(rest, out, "answered", plain::answer)?,
+            "delete" => self.change(rest, out, "deleted", plain::delete)?,
             "run" => {
                 let [limit] = numbers(rest)?;
                 print_run(out, plain::run(&self.program, &mut self.config, limit))?;
@@ -196,6 +182,19 @@ impl Replay {
             }
             _ => return Err(Error::Script(format!("unknown word: `{word}`"))),
         }
+        Ok(())
+    }
+
+    /// A call with one number.
+    fn change(
+        &mut self,
+        rest: &[&str],
+        out: &mut impl Write,
+        word: &str,
+        call: fn(&Program, &mut Config, u32) -> Result<Changed, u32>,
+    ) -> Result<(), Error> {
+        let [n] = numbers(rest)?;
+        print_changed(out, word, call(&self.program, &mut self.config, n))?;
         Ok(())
     }
 

@@ -1,7 +1,7 @@
 //! What the tests are built from. A program is written without its names line, rows parted by ` | `, so that its first row is line 2.
 #![allow(dead_code)]
 
-use plain::{Atom, Config, Plan, Program, Step, NO_VALUE};
+use plain::{Atom, Config, Did, How, Made, Plan, Program, Step, NO_VALUE};
 
 pub const ATOM: &str = "0 0 0 41 0 1 0 0";
 pub const OBJ: &str = "1 1 1 1 -1 1 -2 -3";
@@ -135,6 +135,16 @@ impl Host {
         };
         self.config.plans.iter().map(ids).collect()
     }
+}
+
+/// A rule of set 1 fired and made this.
+pub fn fired(rule: u32, made: Option<Made>) -> Did {
+    Did::Fired { set: 1, rule, made }
+}
+
+/// Plan 2 was executed.
+pub fn executed(how: How) -> Did {
+    Did::Executed { plan: 2, how }
 }
 
 pub fn atom(id: u32, p: u32, a: u32, b: u32) -> Atom {

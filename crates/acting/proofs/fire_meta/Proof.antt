@@ -1,4 +1,4 @@
-use mathlib.Core.Path.{ap, _∙_}
+use mathlib.Core.Path.{sym, ap, _∙_}
 use mathlib.Core.Bool.{and-eq-true-iff}
 use lib.Dec.{leb}
 use lib.ListN.{length}
@@ -10,7 +10,7 @@ use Rattle.acting.proofs.fire_meta.Tie as tie
 use Rattle.acting.proofs.fire_meta.Reads as reads
 use Rattle.acting.proofs.fire_meta.Lts as lts
 use Rattle.acting.proofs.act_all.Reads as act-all-reads
-use Rattle.acting.proofs.copy_words.Reads as copy-words-reads
+use Rattle.slices.proofs.copy.Reads as copy-reads
 
 -- src/lib.rt:229:25
 sub-if1 : tie.Need-sub-if1
@@ -38,24 +38,24 @@ returns c =
     (answers-done (a .words .now) (a .scalars) (r .result) (r .last .1 .0) _ z (r .ensures .0), λ n. absurd (n z))
 
 -- src/lib.rt:233:23
-slice-aggregate-copy-words : tie.Need-slice-aggregate-copy-words
-slice-aggregate-copy-words c = search needs
+slice-aggregate-copy : tie.Need-slice-aggregate-copy
+slice-aggregate-copy c = search needs
 
 -- src/lib.rt:233:5
-copy-words-requires : tie.Need-copy-words-requires
-copy-words-requires c κs = search needs
+copy-requires : tie.Need-copy-requires
+copy-requires c κs = search needs
 
 -- src/lib.rt:234:9
 act-all-requires-2 : tie.Need-act-all-requires-2
 act-all-requires-2 c κs = search needs
 
 -- src/lib.rt:236:20
-slice-aggregate-copy-words-2 : tie.Need-slice-aggregate-copy-words-2
-slice-aggregate-copy-words-2 c = search needs
+slice-aggregate-copy-2 : tie.Need-slice-aggregate-copy-2
+slice-aggregate-copy-2 c = search needs
 
 -- src/lib.rt:236:9
-copy-words-requires-2 : tie.Need-copy-words-requires-2
-copy-words-requires-2 c κs = let l = c .before .before .before .before .before .before .before .before .before .before .before .before .before .before .before .before .before .pre .well .long in (ap length (c .before .before .before .before .before .before .before .before .before .copy-words .ensures) ∙ l, c .before .before .before .before .before .before .act-all2 .kept .1 .0 ∙ l)
+copy-requires-2 : tie.Need-copy-requires-2
+copy-requires-2 c κs = ap length (c .before .before .before .before .before .before .before .before .before .copy .ensures) ∙ sym (c .before .before .before .before .before .before .act-all2 .kept .1 .0)
 
 -- src/lib.rt:224:1
 same-length-2 : tie.Need-same-length-2
@@ -66,8 +66,8 @@ returns-2 : tie.Need-returns-2
 returns-2 c =
     let a = c .before .before .before .before .before .before .before .before .before .before .before .before .before .before .before .before .before .before .before .before .args in
     let r = c .before .before .before .before .before .before .before .before .before .act-all2 in
-    let w = c .before .before .copy-words2 .ensures ∙ c .before .before .before .before .before .before .before .before .before .before .before .before .copy-words .ensures in
-    (answers-refused (a .words .now) (a .scalars) (r .result) (c .before .before .copy-words2 .last .1 .0) (r .last .1 .0) _ (c .before .before .before .before .before .if2 .taken) (r .ensures .0) (r .ensures .1 (c .before .before .before .before .before .if2 .taken)) w, λ n. w)
+    let w = c .before .before .copy2 .ensures ∙ c .before .before .before .before .before .before .before .before .before .before .before .before .copy .ensures in
+    (answers-refused (a .words .now) (a .scalars) (r .result) (c .before .before .copy2 .last .1 .0) (r .last .1 .0) _ (c .before .before .before .before .before .if2 .taken) (r .ensures .0) (r .ensures .1 (c .before .before .before .before .before .if2 .taken)) w, λ n. w)
 
 -- src/lib.rt:224:1
 same-length-3 : tie.Need-same-length-3
@@ -89,11 +89,11 @@ fire-meta-spec =
     act-all-requires
     same-length
     returns
-    slice-aggregate-copy-words
-    copy-words-requires
+    slice-aggregate-copy
+    copy-requires
     act-all-requires-2
-    slice-aggregate-copy-words-2
-    copy-words-requires-2
+    slice-aggregate-copy-2
+    copy-requires-2
     same-length-2
     returns-2
     same-length-3

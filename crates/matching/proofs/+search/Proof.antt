@@ -19,7 +19,7 @@ use Rattle.program.specs.Rows.{rows-of}
 use Rattle.program.proofs.Words.{row-inside}
 use Rattle.state.specs.View.{config-of}
 use Rattle.queries.specs.View.{found-of, match-of}
-use Rattle.queries.specs.Answers.{answers, width}
+use Rattle.queries.specs.Answers.{answers, width, closed}
 use Rattle.queries.proofs.Answers.{match-none, match-one, answer-none, answer-one, only-answers}
 use Rattle.matching.specs.Rules.{reasons-in, counted}
 use Rattle.matching.proofs.Rows.{reasons-next, counted-end, counted-next}
@@ -44,16 +44,16 @@ below t = and 1 search-kinds.ps (falls 1 search-kinds.ps _<_ μ-search t) search
 
 abbrev claims : ℕ → lts.Claims
 claims t =
-    (counts-reads.Asked, counts-reads.Learnt, row-at-reads.Asked, row-at-reads.Learnt, closes-reads.Asked, closes-reads.Learnt, next-answer-reads.Asked, next-answer-reads.Learnt, below t, search′.Post)
+    (counts-reads.Asked, counts-reads.Learnt, row-at-reads.Asked, row-at-reads.Learnt, next-answer-reads.Asked, next-answer-reads.Learnt, below t, search′.Post, closes-reads.Asked, closes-reads.Learnt)
 
 abbrev Inv : lts.InvT-loop
-Inv program words s rule k f r once c₀ c =
+Inv program words s rule k f r values c₀ c =
     (first-of (counted program words s rule k (found-of f))
     ≡ first-of (bind (answers words s r (found-of f) c) (counted program words s rule (k + 1)) ++ []))
-    × (once ≡ true → c ≡ 0)
+    × (closed r values ≡ true → c ≡ 0)
 
 abbrev μ : lts.MeasureT-loop
-μ program words s rule k f r once c₀ c = width s r - c
+μ program words s rule k f r values c₀ c = width s r - c
 
 module _ (t : ℕ) where
   -- how many reasons are left at row k
@@ -84,30 +84,30 @@ module _ (t : ℕ) where
 
   loop-holds : lts.Need-loop-holds (claims t) (at t) search′.Post Inv μ
   loop-holds c =
-      let g = c .before .before in
+      let g = c .before in
       let s = g .before .before .before .before .before in
       let a = s .args in
       (ap first-of (counted-next (a .program .now) (a .words .now) (a .s) (a .rule) (a .k) (found-of (a .f)) (g .before .if1 .left) (g .row-at .result) (g .row-at .ensures) ∙ sym (append-nil _)), λ _. refl)
 
   next-answer-requires : lts.Need-next-answer-requires (claims t) (at t) search′.Post Inv μ
-  next-answer-requires c κs = let n = left (c .before .before .before) in let p = c .before .before .before .before .before .before .before .before .pre .1 in let q = p .2 in (p .1, omega arith)
+  next-answer-requires c κs = let n = left (c .before .before) in let p = c .before .before .before .before .before .before .before .pre .1 in let q = p .2 in (p .1, omega arith)
 
   returns-2 : lts.Need-returns-2 (claims t) (at t) search′.Post Inv μ
   returns-2 c =
       let x = c .before .before in
-      let p = x .before .before .before .before .before .before .before .before .before .pre .1 .2 in
+      let p = x .before .before .before .before .before .before .before .before .pre .1 .2 in
       record {
         is = sym (spent _ _ [] (x .before .loop .inv .0) (answer-none _ _ _ _ (x .next-answer .result) _ (x .next-answer .ensures .is) (not-true _ (c .if2 .taken))));
         few = omega arith;
       }
 
   add-search : lts.Need-add-search (claims t) (at t) search′.Post Inv μ
-  add-search c = let g = c .before .before .before .before .before .before .before in let h = g .before .if1 .left in let p = g .before .before .before .before .before .pre .1 .0 in let q = p .ordered in let n = p .inside in omega arith
+  add-search c = let g = c .before .before .before .before .before .before in let h = g .before .if1 .left in let p = g .before .before .before .before .before .pre .1 .0 in let q = p .ordered in let n = p .inside in omega arith
 
   search-requires : lts.Need-search-requires (claims t) (at t) search′.Post Inv μ
   search-requires c κs =
       let x = c .before .before .before in
-      let g = x .before .before .before .before in
+      let g = x .before .before .before in
       let s = g .before .before .before .before .before in
       let n = left g in
       let q = s .pre .1 .2 in
@@ -128,43 +128,45 @@ module _ (t : ℕ) where
 
   returns-4 : lts.Need-returns-4 (claims t) (at t) search′.Post Inv μ
   returns-4 c =
-      let q = c .before .before in
+      let o = c .before in
+      let q = o .before .before in
       let i = q .before .before in
       let x = i .before .before in
       let l = x .before in
-      let o = l .before in
-      let s = o .before .before .before .before .before .before .before in
+      let g = l .before .before in
+      let s = g .before .before .before .before .before in
       let a = s .args in
       let m = q .search .result in
       let p = s .pre .1 .2 in
+      let e = sym (o .closes .ensures) ∙ c .if4 .taken in
       record {
         is = sym (pruned (found-of (a .f)) _ _ [] (l .loop .inv .0)
-            (subst (λ (n : ℕ). Only (found-of (a .f)) (answers (a .words .now) (a .s) (o .before .before .row-at .result) (found-of (a .f)) n)) (sym (l .loop .inv .1 (c .if4 .taken)))
-            (only-answers _ _ _ _ (sym (o .closes .ensures) ∙ c .if4 .taken)))
+            (subst (λ (n : ℕ). Only (found-of (a .f)) (answers (a .words .now) (a .s) (g .row-at .result) (found-of (a .f)) n)) (sym (l .loop .inv .1 e)) (only-answers _ _ _ _ e))
             _ _ (answer-one _ _ _ _ (x .next-answer .result) _ (x .next-answer .ensures .is) (not-false _ (i .if2 .left)))
-            (match-of m) (q .search .ensures .is) (match-none m (c .before .if3 .left)));
+            (match-of m) (q .search .ensures .is) (match-none m (o .before .if3 .left)));
         few = omega arith;
       }
 
   loop-less : lts.Need-loop-less (claims t) (at t) search′.Post Inv μ
   loop-less c =
-      let i = c .before .before .before .before in
+      let i = c .before .before .before .before .before in
       let x = i .before .before in
       let on = x .next-answer .ensures .further (not-false _ (i .if2 .left)) in
       omega arith
 
   loop-again : lts.Need-loop-again (claims t) (at t) search′.Post Inv μ
   loop-again c =
-      let q = c .before .before in
+      let o = c .before in
+      let q = o .before .before in
       let i = q .before .before in
       let x = i .before .before in
       let m = q .search .result in (
         backed _ _ [] (x .before .loop .inv .0) _ _ (answer-one _ _ _ _ (x .next-answer .result) _ (x .next-answer .ensures .is) (not-false _ (i .if2 .left)))
-            (match-of m) (q .search .ensures .is) (match-none m (c .before .if3 .left)),
-        λ o. absurd (false≢true (sym (c .if4 .left) ∙ o)),
+            (match-of m) (q .search .ensures .is) (match-none m (o .before .if3 .left)),
+        λ h. absurd (false≢true (sym (c .if4 .left) ∙ o .closes .ensures ∙ h)),
       )
 
 pub +search-spec : {M : Type 1} → statement M
 +search-spec =
     close μ-search λ t. lts.spec (claims t) (at t) search′.Post Inv μ
-    (counts-requires t) (returns t) (row-at-requires t) (closes-requires t) (loop-holds t) (next-answer-requires t) (returns-2 t) (add-search t) (search-requires t) (returns-3 t) (returns-4 t) (loop-less t) (loop-again t)
+    (counts-requires t) (returns t) (row-at-requires t) (loop-holds t) (next-answer-requires t) (returns-2 t) (add-search t) (search-requires t) (returns-3 t) (closes-requires t) (returns-4 t) (loop-less t) (loop-again t)

@@ -27,30 +27,44 @@ cast-k c = search needs
 mul-v : tie.Need-mul-v
 mul-v c = search needs
 
-array-read-v : tie.Need-array-read-v
-array-read-v c = search needs
+slice-read-v : tie.Need-slice-read-v
+slice-read-v c = search needs
 
-mul-after : tie.Need-mul-after
-mul-after c = search needs
+mul-values : tie.Need-mul-values
+mul-values c = search needs
 
-array-write-after : tie.Need-array-write-after
-array-write-after c = search needs
+slice-write-values : tie.Need-slice-write-values
+slice-write-values c = search needs
+
+same-length : tie.Need-same-length
+same-length c = search needs
 
 returns-3 : tie.Need-returns-3
 unfolding meet
 returns-3 c =
-    let a = c .before .before .before .args in
-    let l : length (a .t3) ≡ 8 = search needs in
-    let e = get-within (a .t3) (8 - a .x) 65536 0 (omega arith) in
-    simp (ne-eqb _ _ (c .before .before .if1 .left), lt-leb _ _ (c .before .if2 .left), e, eq-eqb _ _ (c .if3 .taken))
+    let s = c .before .before .before .before in
+    let e = get-within (s .args .values .now) (8 - s .args .x) 65536 0 (omega (arith, s .pre)) in
+    simp (ne-eqb _ _ (c .before .before .before .if1 .left), lt-leb _ _ (c .before .before .if2 .left), e, eq-eqb _ _ (c .if3 .taken))
 
 returns-4 : tie.Need-returns-4
 unfolding meet
 returns-4 c =
-    let a = c .before .before .before .args in
-    let l : length (a .t3) ≡ 8 = search needs in
-    let e = get-within (a .t3) (8 - a .x) 65536 0 (omega arith) in
-    simp (ne-eqb _ _ (c .before .before .if1 .left), lt-leb _ _ (c .before .if2 .left), e, ne-eqb _ _ (c .if3 .left))
+    let s = c .before .before .before .before in
+    let e = get-within (s .args .values .now) (8 - s .args .x) 65536 0 (omega (arith, s .pre)) in
+    simp (ne-eqb _ _ (c .before .before .before .if1 .left), lt-leb _ _ (c .before .before .if2 .left), e, ne-eqb _ _ (c .if3 .left))
 
 pub meet-spec : {M : Type 1} → statement M
-meet-spec = tie.close (tie.spec returns returns-2 sub-k cast-k mul-v array-read-v mul-after array-write-after returns-3 returns-4)
+meet-spec =
+    tie.close
+    (tie.spec
+    returns
+    returns-2
+    sub-k
+    cast-k
+    mul-v
+    slice-read-v
+    mul-values
+    slice-write-values
+    same-length
+    returns-3
+    returns-4)

@@ -26,16 +26,16 @@ cast-k c = search needs
 mul-result : tie.Need-mul-result
 mul-result c = search needs
 
-array-read-result : tie.Need-array-read-result
-array-read-result c = search needs
+shared-slice-read-result : tie.Need-shared-slice-read-result
+shared-slice-read-result c = search needs
 
 returns-2 : tie.Need-returns-2
 returns-2 c =
-    let a = c .before .before .args in
-    let l : length (a .t2) ≡ 8 = search needs in
-    let v = get-within (a .t2) (8 - a .x) 65536 0 (omega arith) in
-    let z : eqb (a .x) 0 ≡ false = ne-eqb (a .x) 0 (λ (e : a .x ≡ 0). let h = c .if2 .taken in omega arith) in
-    rw (z, lt-leb _ _ (c .before .if1 .left), v)
+    let s = c .before .before .before in
+    let x = s .args .x in
+    let v = get-within (s .args .values .now) (8 - x) 65536 0 (omega (arith, s .pre)) in
+    let z : eqb x 0 ≡ false = ne-eqb x 0 (λ (e : x ≡ 0). let h = c .before .if2 .taken in omega arith) in
+    rw (z, lt-leb _ _ (c .before .before .if1 .left), v)
 
 returns-3 : tie.Need-returns-3
 returns-3 c =
@@ -44,4 +44,6 @@ returns-3 c =
     rw (eq-eqb x 0 z)
 
 pub settles-spec : {M : Type 1} → statement M
-settles-spec = tie.close (tie.spec returns sub-k cast-k mul-result array-read-result returns-2 returns-3)
+settles-spec =
+    tie.close
+    (tie.spec returns sub-k cast-k mul-result shared-slice-read-result returns-2 returns-3)

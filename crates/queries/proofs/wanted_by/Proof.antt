@@ -29,25 +29,27 @@ cast-k c = search needs
 mul-v : tie.Need-mul-v
 mul-v c = search needs
 
-array-read-v : tie.Need-array-read-v
-array-read-v c = search needs
+shared-slice-read-v : tie.Need-shared-slice-read-v
+shared-slice-read-v c = search needs
 
 returns-2 : tie.Need-returns-2
 unfolding meet
 returns-2 c =
-    let a = c .before .before .args in
-    let l : length (a .t2) ≡ 8 = search needs in
-    let v = get-within (a .t2) (8 - a .x) 65536 0 (omega arith) in
-    let z : eqb (a .x) 0 ≡ false = ne-eqb (a .x) 0 (λ (e : a .x ≡ 0). let h = c .if2 .taken in omega arith) in
+    let s = c .before .before .before in
+    let x = s .args .x in
+    let l = s .args .values .now in
+    let v = get-within l (8 - x) 65536 0 (omega (arith, s .pre)) in
+    let z : eqb x 0 ≡ false = ne-eqb x 0 (λ (e : x ≡ 0). let h = c .before .if2 .taken in omega arith) in
     record {
       misses = λ t n h u g.
-          let k : eqb (getD (a .t2) (8 - a .x) 0) 65536 ≡ false = not-true _ t in
-          let o : value-of u (a .x) ≡ value-of (a .t2) (a .x) = g (a .x) (λ e. eqb-false _ _ k (sym v ∙ e)) in
-          rw (z, lt-leb _ _ (c .before .if1 .left), o, v, k, ne-eqb (getD (a .t2) (8 - a .x) 0) n (λ e. h (sym e)));
+          let k : eqb (getD l (8 - x) 0) 65536 ≡ false = not-true _ t in
+          let o : value-of u x ≡ value-of l x = g x (λ e. eqb-false _ _ k (sym v ∙ e)) in
+          rw (z, lt-leb _ _ (c .before .before .if1 .left), o, v, k, ne-eqb (getD l (8 - x) 0) n (λ e. h (sym e)));
     }
 
 returns-3 : tie.Need-returns-3
 returns-3 c = record { misses = λ t. absurd (false≢true t) }
 
 pub wanted-by-spec : {M : Type 1} → statement M
-wanted-by-spec = tie.close (tie.spec returns sub-k cast-k mul-v array-read-v returns-2 returns-3)
+wanted-by-spec =
+    tie.close (tie.spec returns sub-k cast-k mul-v shared-slice-read-v returns-2 returns-3)

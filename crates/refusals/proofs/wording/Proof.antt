@@ -1,24 +1,19 @@
--- What was copied stands within the array. The measure is what is left of the text.
-use mathlib.Core.Path.{_≡_, sym}
-use Prim.Native.Nat.{_-_, _≤_}
-use native.Mathlib.Omega.{arith}
-use lib.ListN.{length}
-use lib.Seq.{length-take-le}
+-- The bytes so far are those of the text. The measure is what is left of it.
+use Prim.Native.Nat.{_-_}
+use lib.ListN as ListN
 use borrow.Author.Needs.{needs}
+use Rattle.refusals.proofs.Copies.{Copied, copied-none, copied-more, copied-all}
 use Rattle.refusals.proofs.wording.Statement.{statement}
 use Rattle.refusals.proofs.wording.Tie as tie
 
 abbrev Inv-loop : tie.InvT-loop
-Inv-loop text bytes₀ n₀ bytes n = (n ≤ length text) × (n ≤ 96) × (length bytes ≡ 96)
+Inv-loop text bytes₀ length₀ bytes length = Copied text bytes length
 
 abbrev μ-loop : tie.MeasureT-loop
-μ-loop text bytes₀ n₀ bytes n = length text - n
+μ-loop text bytes₀ length₀ bytes length = ListN.length text - length
 
 loop-holds : tie.Need-loop-holds Inv-loop μ-loop
-loop-holds c = search needs
-
-returns : tie.Need-returns Inv-loop μ-loop
-returns c = (search needs, sym (length-take-le _ _ (search needs)))
+loop-holds c = search (needs, copied-none)
 
 shared-slice-read-bytes : tie.Need-shared-slice-read-bytes Inv-loop μ-loop
 shared-slice-read-bytes c = search needs
@@ -33,10 +28,10 @@ loop-less : tie.Need-loop-less Inv-loop μ-loop
 loop-less c = search needs
 
 loop-again : tie.Need-loop-again Inv-loop μ-loop
-loop-again c = search needs
+loop-again c = copied-more (c .before .before .loop .inv) (c .before .loop-test .taken)
 
-returns-2 : tie.Need-returns-2 Inv-loop μ-loop
-returns-2 c = (search needs, sym (length-take-le _ _ (search needs)))
+returns : tie.Need-returns Inv-loop μ-loop
+returns c = copied-all (c .before .loop .inv) (c .loop-test .left)
 
 pub wording-spec : {M : Type 1} → statement M
 wording-spec =
@@ -45,10 +40,9 @@ wording-spec =
     Inv-loop
     μ-loop
     loop-holds
-    returns
     shared-slice-read-bytes
     array-write-bytes
     add-length
     loop-less
     loop-again
-    returns-2)
+    returns)

@@ -1,7 +1,9 @@
--- A word that is no number stands where `numbers` says.
-use mathlib.Core.Path.{subst}
+-- `script::in_fours` meets its contract.
+use mathlib.Core.Path.{refl}
+use Prim.Native.Nat.{_-_, _%_}
 use lib.ListN.{length}
-use Rattle.script.specs.Reading.{Within}
+use Rattle.script.specs.Reading.{whole-rows}
+use Rattle.script.proofs.Passing.{short-row, short-within}
 use borrow.Author.Needs.{needs}
 use Rattle.script.proofs.in_fours.Statement.{statement}
 use Rattle.script.proofs.in_fours.Tie as tie
@@ -16,31 +18,19 @@ same-length : tie.Need-same-length
 same-length c = search needs
 
 returns : tie.Need-returns
-returns c = search needs
+returns c = (c .before .before .before .numbers .ensures .0, whole-rows (c .before .before .before .before .before .spaces .ensures) (c .if1 .taken) (c .before .before .before .numbers .ensures .1))
 
-enum-known-found : tie.Need-enum-known-found
-enum-known-found c = search needs
+sub-cut-short : tie.Need-sub-cut-short
+sub-cut-short c = search needs
+
+cut-short-requires : tie.Need-cut-short-requires
+cut-short-requires c κs = search needs
 
 same-length-2 : tie.Need-same-length-2
 same-length-2 c = search needs
 
 returns-2 : tie.Need-returns-2
-returns-2 c = search needs
-
-sub-if2 : tie.Need-sub-if2
-sub-if2 c = search needs
-
-same-length-3 : tie.Need-same-length-3
-same-length-3 c = search needs
-
-returns-3 : tie.Need-returns-3
-returns-3 c = search needs
-
-same-length-4 : tie.Need-same-length-4
-same-length-4 c = search needs
-
-returns-4 : tie.Need-returns-4
-returns-4 c = let b = c .before .before .before .before .before .before .before in subst (Within (length (b .before .before .before .before .before .args .line .now))) (c .before .before .found .given .1) (b .numbers .ensures)
+returns-2 c = rw (c .cut-short .ensures) (short-within (length (c .before .before .before .before .before .before .before .before .before .args .line .now)) ((c .before .before .before .before .before .before .spaces .result) - (c .before .before .before .before .before .before .spaces .result) % 4) ((c .before .before .before .before .before .before .spaces .result) % 4) (c .before .before .before .before .numbers .result) (c .before .before .before .before .numbers .ensures .0), short-row (c .before .before .before .before .before .before .spaces .ensures) refl (c .before .if1 .left) _ (c .before .before .before .before .numbers .ensures .1))
 
 pub in-fours-spec : {M : Type 1} → statement M
 in-fours-spec =
@@ -50,11 +40,7 @@ in-fours-spec =
     numbers-requires
     same-length
     returns
-    enum-known-found
+    sub-cut-short
+    cut-short-requires
     same-length-2
-    returns-2
-    sub-if2
-    same-length-3
-    returns-3
-    same-length-4
-    returns-4)
+    returns-2)

@@ -1,20 +1,20 @@
--- Each number takes one byte of the line at least, so that there is room for it. The measure is what is left of the line.
-use mathlib.Core.Path.{_≡_}
-use Prim.Native.Nat.{_-_, _≤_}
-use native.Mathlib.Omega.{arith}
+-- The words so far are numbers, which stand first in the array. The measure is what is left of the line.
+use mathlib.Core.Path.{sym, _∙_}
+use Prim.Native.Nat.{_-_}
 use lib.ListN.{length}
 use borrow.Author.Needs.{needs}
+use Rattle.script.proofs.Passing.{Passing, passing-first, has-room, passes, stops, ends}
 use Rattle.script.proofs.numbers.Statement.{statement}
 use Rattle.script.proofs.numbers.Tie as tie
 
 abbrev Inv-loop : tie.InvT-loop
-Inv-loop line from out₀ at₀ k₀ out at k = (at ≤ length line) × (k ≤ at) × (length out ≡ length out₀)
+Inv-loop line from out₀ at₀ k₀ out at k = Passing line from out₀ out at k
 
 abbrev μ-loop : tie.MeasureT-loop
 μ-loop line from out₀ at₀ k₀ out at k = length line - at
 
 loop-holds : tie.Need-loop-holds Inv-loop μ-loop
-loop-holds c = search needs
+loop-holds c = search (needs, passing-first)
 
 add-begin : tie.Need-add-begin Inv-loop μ-loop
 add-begin c = search needs
@@ -44,13 +44,13 @@ same-length : tie.Need-same-length Inv-loop μ-loop
 same-length c = search needs
 
 returns : tie.Need-returns Inv-loop μ-loop
-returns c = search needs
+returns c = (search needs, stops (c .before .before .before .before .before .before .loop .inv) (c .before .before .before .before .before .loop-test .taken) (c .before .before .before .before .word-end .ensures) (sym (c .enum-told .given .1) ∙ c .before .before .read-number .ensures))
 
 mul-out : tie.Need-mul-out Inv-loop μ-loop
 mul-out c = search needs
 
 slice-write-out : tie.Need-slice-write-out Inv-loop μ-loop
-slice-write-out c = search needs
+slice-write-out c = has-room (c .before .before .before .before .before .before .before .loop .inv) (c .before .before .before .before .before .before .loop-test .taken)
 
 add-k : tie.Need-add-k Inv-loop μ-loop
 add-k c = search needs
@@ -59,13 +59,13 @@ loop-less : tie.Need-loop-less Inv-loop μ-loop
 loop-less c = search needs
 
 loop-again : tie.Need-loop-again Inv-loop μ-loop
-loop-again c = search needs
+loop-again c = passes (c .before .before .before .before .before .before .before .loop .inv) (c .before .before .before .before .before .before .loop-test .taken) (c .before .before .before .before .before .word-end .ensures) _ (sym (c .before .n .given .1) ∙ c .before .before .before .read-number .ensures)
 
 same-length-2 : tie.Need-same-length-2 Inv-loop μ-loop
 same-length-2 c = search needs
 
 returns-2 : tie.Need-returns-2 Inv-loop μ-loop
-returns-2 c = search needs
+returns-2 c = (search needs, ends (c .before .loop .inv) (c .loop-test .left))
 
 pub numbers-spec : {M : Type 1} → statement M
 numbers-spec =

@@ -6,9 +6,6 @@ use borrow.Author.Needs.{needs}
 use Rattle.replay.proofs.calls.show.Statement.{statement}
 use Rattle.replay.proofs.calls.show.Tie as tie
 
-slice-aggregate-admits : tie.Need-slice-aggregate-admits
-slice-aggregate-admits c = search needs
-
 admits-requires : tie.Need-admits-requires
 admits-requires c κs = search needs
 
@@ -37,7 +34,6 @@ pub show-spec : {M : Type 1} → statement M
 show-spec =
     tie.close
     (tie.spec
-    slice-aggregate-admits
     admits-requires
     put-refused-requires
     with-requires
