@@ -31,7 +31,14 @@ pub fn all() -> Vec<Line> {
         lines.push(join(atoms, true));
         lines.push(join(atoms, false));
     }
-    lines.extend([rules(), deletion(), sensing(), loading(), round_robin()]);
+    lines.extend([
+        any_rows(),
+        rules(),
+        deletion(),
+        sensing(),
+        loading(),
+        round_robin(),
+    ]);
     lines
 }
 
@@ -88,6 +95,18 @@ fn join(atoms: u32, has_match: bool) -> Line {
         before,
         work: Work::Calls(vec![Call::Step]),
         left: (atoms, u32::from(has_match)),
+    }
+}
+
+fn any_rows() -> Line {
+    let mut before = cycles(&readings(1, 250));
+    before.push(Call::Sense(vec![]));
+    Line {
+        name: "step, six rows of any over 250 atoms, the last fails".into(),
+        text: programs::any_rows(),
+        before,
+        work: Work::Calls(vec![Call::Step]),
+        left: (250, 0),
     }
 }
 

@@ -33,6 +33,12 @@ pub fn join() -> String {
     format!("{NAMES}1 1 1 1 -9 1 -1 -9\n1 1 1 1 -9 1 -2 -9\n1 1 1 1 -9 2 -1 -2\n")
 }
 
+/// Six rows of any atoms, of which the last fails: tried one by one, 250 atoms would be 10^12 ways.
+pub fn any_rows() -> String {
+    let rows = "1 1 2 1 -9 1 -9 -9\n".repeat(5);
+    format!("{NAMES}{rows}1 1 2 1 -9 2 -9 -9\n1 1 3 21 -9 3 0 0\n")
+}
+
 /// 32 rules, each for a predicate of its own; only that of the last is sensed.
 pub fn rules() -> String {
     let rule = |k: u32| format!("1 {k} 1 1 -1 {} -2 -3\n1 {k} 3 31 0 9 -2 -3\n", 100 + k);

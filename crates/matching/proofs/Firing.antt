@@ -7,8 +7,8 @@ use Prim.Native.Nat.{ℕ, _+_, _-_, _/_, _≤_, _<_}
 use native.Mathlib.Omega.{arith}
 use lib.Dec.{eqb, ltb}
 use lib.ListN.{length, length-append}
-use borrow.Author.Tests.{eqb-true, ne-eqb, ltb-true, ltb-false, le-ltb}
-use Rattle.lists.specs.Lists.{In, keep, when, first-of, is-empty, bind}
+use borrow.Author.Tests.{eqb-true, eq-eqb, ne-eqb, ltb-true, ltb-false, le-ltb}
+use Rattle.lists.specs.Lists.{if_then_else_, In, keep, when, first-of, is-empty, bind}
 use Rattle.lists.proofs.Lists.{clash, keep-in, count-keep}
 use Rattle.lists.proofs.Bind.{keep-append}
 use Rattle.lists.proofs.Splits.{keep-none}
@@ -24,13 +24,11 @@ use Rattle.spans.specs.Spans.{Bound}
 use Rattle.spans.proofs.Spans.{bounds-rise, span-is}
 use Rattle.state.specs.declared.Scalars.{Scalars}
 use Rattle.state.specs.View.{config-of}
-use Rattle.queries.specs.declared.Match.{Match}
-use Rattle.queries.specs.View.{found-of, match-of}
+use Rattle.queries.specs.View.{found-in, found-of}
 use Rattle.queries.specs.Answers.{answers}
-use Rattle.queries.proofs.Answers.{match-none, match-one}
 use Rattle.matching.specs.declared.Rule.{Rule}
 use Rattle.matching.specs.declared.Choice.{Choice}
-use Rattle.matching.specs.Rules.{rows-between, reasons-in, Located, counted, choice-of}
+use Rattle.matching.specs.Rules.{rows-between, reasons-in, Located, counted, match-in, choice-of}
 use Rattle.matching.proofs.Rows.{counted-next}
 use Rattle.matching.proofs.Rules.{rows-join, top, fired, fires, fires-next, fires-end, no-rule}
 
@@ -129,16 +127,17 @@ module _ (program : List ℕ) (s n start behind mid end : ℕ) (x : Parts progra
         ∙ ap (map (fired n)) (counted-next program words scalars rule-at start f k r e)
         ∙ map-bind (fired n) (counted program words scalars rule-at (start + 1)) (answers words scalars r f 0))
 
--- the answer of the search, as a firing
-module _ (n : ℕ) (m : Match) where
-  pub firing-none : m .found ≡ false → map (fired n) (match-of m) ≡ []
-  firing-none h = ap (map (fired n)) (match-none m h)
+-- what the search found: nothing, or a match
+module _ (values matched : List ℕ) (n : ℕ) where
+  pub match-none : n ≡ 0 → match-in values matched n ≡ []
+  match-none e = ap (λ (b : Bool). if b then [] else found-in values matched (n - 1) ∷ []) (eq-eqb n 0 e)
 
-  pub firing-one : m .found ≡ true → map (fired n) (match-of m) ≡ fired n (found-of (m .bindings)) ∷ []
-  firing-one h = ap (map (fired n)) (match-one m h)
+  pub match-one : n ≢ 0 → match-in values matched n ≡ found-in values matched (n - 1) ∷ []
+  match-one e = ap (λ (b : Bool). if b then [] else found-in values matched (n - 1) ∷ []) (ne-eqb n 0 e)
 
-pub firing-first : (program words : List ℕ) (scalars : Scalars) (rule : Rule) (start : ℕ) (x : Found) (m : Match) →
-    match-of m ≡ first-of (counted program words scalars rule (start + 1) x) → map (fired (rule .number)) (match-of m) ≡ first-of (follow program words scalars rule start x)
+-- its answer, as a firing
+pub firing-first : (program words : List ℕ) (scalars : Scalars) (rule : Rule) (start : ℕ) (x : Found) (m : List Found) →
+    m ≡ first-of (counted program words scalars rule (start + 1) x) → map (fired (rule .number)) m ≡ first-of (follow program words scalars rule start x)
 unfolding follow
 firing-first program words scalars rule start x m e =
     ap (map (fired (rule .number))) e ∙ sym (first-map (fired (rule .number)) (counted program words scalars rule (start + 1) x))

@@ -1,17 +1,17 @@
 -- Where a rule's rows stand, which of its matches count, and what the choice says in the model's terms.
 use mathlib.Core.Path.{_≡_}
-use mathlib.Core.List.{List}
+use mathlib.Core.List.{List, [], _∷_}
 use Prim.Native.Nat.{ℕ, _-_, _/_, _≤_}
 use lib.Dec.{eqb}
 use lib.ListN.{length, take, getD}
-use Rattle.lists.specs.Lists.{keep, when}
+use Rattle.lists.specs.Lists.{if_then_else_, keep, when, first-of}
 use Rattle.model.specs.declared.Row.{Row}
 use Rattle.model.specs.Program.{is-object, body}
 use Rattle.model.specs.Matching.{Found, matches, counts, Firing}
 use Rattle.program.specs.Rows.{rows-from, rows-of}
 use Rattle.state.specs.declared.Scalars.{Scalars}
 use Rattle.state.specs.View.{config-of}
-use Rattle.queries.specs.View.{found-of}
+use Rattle.queries.specs.View.{found-in, found-of}
 use Rattle.matching.specs.declared.Rule.{Rule}
 use Rattle.matching.specs.declared.Ids.{Ids}
 use Rattle.matching.specs.declared.Choice.{Choice}
@@ -35,6 +35,15 @@ pub record Located (program : List ℕ) (rule : Rule) : Type 0 where
 unfoldable pub counted : List ℕ → List ℕ → Scalars → Rule → ℕ → Found → List Found
 counted program words s rule k f =
     keep (counts (rows-of program) (config-of words s) (rule .set) (rule .number)) (matches (config-of words s) (rows-between program k (rule .body)) f)
+
+-- a match in place, with n one more than the ids that it matched; 0 is none
+abbrev pub match-in : List ℕ → List ℕ → ℕ → List Found
+match-in values matched n = if eqb n 0 then [] else found-in values matched (n - 1) ∷ []
+
+-- the first of these matches
+pub record Searched (l : List Found) (values matched : List ℕ) (n : ℕ) : Type 0 where
+  pub is : match-in values matched n ≡ first-of l
+  pub few : n ≤ 5
 
 -- ids in a list, and zeros behind them
 abbrev pub ids-of : Ids → List ℕ

@@ -1,21 +1,20 @@
 // The matches of rules: the backtracking search over a rule's rows, the test for an equal plan, and the choice of the rule.
 use model::Row;
 use queries::Bindings;
-use queries::Match;
 use state::Scalars;
 ghost use mathlib.Core.Path.{_≡_};
 ghost use mathlib.Core.Bool.{true, _&&_};
 ghost use Prim.Native.Nat.{_+_, _-_, _*_, _/_, _<_, _≤_};
 ghost use lib.Dec.{eqb};
 ghost use lib.ListN.{length, take};
-ghost use Rattle.lists.specs.Lists.{Pairs, first-of, insert as inserted, rising-set as rising-set-of, same};
+ghost use Rattle.lists.specs.Lists.{Pairs, insert as inserted, rising-set as rising-set-of, same};
 ghost use Rattle.model.specs.Matching.{nothing-found, body-value, body-values, justifications-of, equal-plan, counts as counts-of, firing};
 ghost use Rattle.program.specs.Rows.{row-at, rows-of};
 ghost use Rattle.program_laws.specs.Lawful.{NotLater, Lawful};
 ghost use Rattle.spans.specs.Spans.{Bound};
 ghost use Rattle.state.specs.View.{plan-at, config-of};
-ghost use Rattle.queries.specs.View.{found-of, Limits, Fitted};
-ghost use Rattle.matching.specs.Rules.{rows-between, reasons-in, Located, counted, ids-of, Padded, choice-of, Chosen};
+ghost use Rattle.queries.specs.View.{found-in, found-of, Limits, Sized, Kept};
+ghost use Rattle.matching.specs.Rules.{rows-between, reasons-in, Located, counted, Searched, ids-of, Padded, choice-of, Chosen};
 
 // A rule: its set and number, where its body begins, which is where its reasons and context end, where its body ends, and
 // whether it is an object rule.
@@ -209,48 +208,54 @@ fn counts<'a>(program: &'a [u32], words: &'a [u32], s: Scalars, rule: Rule, f: B
     true
 }
 
-// The first match of the rows from k up to the rule's body that counts. "Rows are tried left to right, .. candidates in rising id":
-// the search calls itself on the rows that remain. A row that leaves everything as it was is tried once.
+// The first match of the rows from k up to the rule's body that counts, in place: `count` ids are matched before. One more than are
+// matched then, or 0 where there is no match, and all is as it was. "Rows are tried left to right, .. candidates in rising id": the search
+// calls itself on the rows that remain. A row that leaves everything as it was is tried once.
 pub fn search<'a>(
     program: &'a [u32],
     words: &'a [u32],
     s: Scalars,
     rule: Rule,
     k: usize,
-    f: Bindings,
-) -> Match
-    requires { ⌜ Located (now program) rule × Limits (now words) s × (f .count + reasons-in (now program) k (rule .body) ≤ 4) ⌝ }
-    ensures { λ m. ⌜ Fitted (first-of (counted (now (program .entry)) (now (words .entry)) s rule k (found-of f))) 4 m ⌝ }
+    count: usize,
+    values: &mut [u32; 8],
+    matched: &mut [u32; 4],
+) -> usize
+    requires { ⌜ Located (now program) rule × Limits (now words) s × (count + reasons-in (now program) k (rule .body) ≤ 4) × Sized (now values) (now matched) ⌝ }
+    ensures sized { λ _. ⌜ Sized (now (values .exit)) (now (matched .exit)) ⌝ }
+    ensures is { λ n. ⌜ Searched (counted (now (program .entry)) (now (words .entry)) s rule k (found-in (now (values .entry)) (now (matched .entry)) count)) (now (values .exit)) (now (matched .exit)) n ⌝ }
+    ensures back { λ n. ⌜ (n ≡ 0 → now (values .exit) ≡ now (values .entry)) ⌝ }
+    ensures kept { λ _. ⌜ Kept count (now (matched .entry)) (now (matched .exit)) ⌝ }
 {
+    let before = *values;
     if rule.body <= k {
-        return Match {
-            bindings: f,
-            found: counts(program, words, s, rule, f),
+        let ids = *matched;
+        let f = Bindings {
+            values: before,
+            matched: ids,
+            count,
         };
+        if counts(program, words, s, rule, f) {
+            return count + 1;
+        }
+        return 0;
     }
     let r = program::row_at(program, k);
-    let values = f.values;
     let mut c: usize = 0;
     loop {
-        let x = queries::next_answer(words, s, r, c, f);
-        if !x.found {
-            return Match {
-                bindings: f,
-                found: false,
-            };
+        c = queries::next_answer(words, s, r, c, before, count, values, matched);
+        if c == 0 {
+            return 0;
         }
-        let after = x.bindings;
-        let m = search(program, words, s, rule, k + 1, after);
-        if m.found {
+        let n = count + queries::given_ids(r);
+        let m = search(program, words, s, rule, k + 1, n, values, matched);
+        if m != 0 {
             return m;
         }
-        if queries::closes(r, values) {
-            return Match {
-                bindings: f,
-                found: false,
-            };
+        *values = before;
+        if queries::closes(r, before) {
+            return 0;
         }
-        c = x.next;
     }
 }
 
@@ -298,7 +303,9 @@ pub fn choose<'a>(program: &'a [u32], words: &'a [u32], s: Scalars, set: u32) ->
     ensures chosen { λ x. ⌜ (x .found ≡ true → Chosen (now (program .entry)) set x) ⌝ }
 {
     let f = nothing();
-    let values = f.values;
+    let before = f.values;
+    let mut values = before;
+    let mut matched = f.matched;
     let mut best = Choice {
         bindings: f,
         rule: Rule {
@@ -337,28 +344,40 @@ pub fn choose<'a>(program: &'a [u32], words: &'a [u32], s: Scalars, set: u32) ->
             };
             break 'rules;
         }
-        let once = queries::closes(r, values);
+        let once = queries::closes(r, before);
         let mut c: usize = 0;
         'candidates: loop {
-            let x = queries::next_answer(words, s, r, c, f);
-            if !x.found {
+            c = queries::next_answer(words, s, r, c, before, 0, &mut values, &mut matched);
+            if c == 0 {
                 break 'candidates;
             }
-            let after = x.bindings;
-            let m = search(program, words, s, rule, start + 1, after);
-            if m.found {
-                let b = m.bindings;
+            let ids = queries::given_ids(r);
+            let m = search(
+                program,
+                words,
+                s,
+                rule,
+                start + 1,
+                ids,
+                &mut values,
+                &mut matched,
+            );
+            if m != 0 {
                 best = Choice {
-                    bindings: b,
+                    bindings: Bindings {
+                        values,
+                        matched,
+                        count: m - 1,
+                    },
                     rule,
                     found: true,
                 };
                 break 'rules;
             }
+            values = before;
             if once {
                 break 'candidates;
             }
-            c = x.next;
         }
         number += 1;
         start = end;

@@ -1,16 +1,17 @@
 -- The answers of a row by number are the model's, in its order; and a row that is closed leaves everything as it was.
 use mathlib.Core.Path.{_≡_, refl, sym, ap, _∙_, subst}
 use mathlib.Core.Bool.{Bool, true, false, not, _||_, and-eq-true-iff}
+use mathlib.Core.Logic.{_≢_}
 use mathlib.Core.List.{List, [], _∷_, _++_}
 use Prim.Native.Nat.{ℕ, _+_, _*_, _/_, _%_, _≤_, _<_}
-use native.Mathlib.Nat.{sub-zero}
+use native.Mathlib.Nat.{sub-zero, add-zero}
+use native.Mathlib.Omega.{arith}
 use lib.Dec.{eqb}
 use lib.ListN.{set}
 use borrow.Author.Tests.{eq-eqb, ne-eqb, not-true}
-use Rattle.lists.specs.Lists.{if_then_else_, within, when, is-empty, bind, count-up}
+use Rattle.lists.specs.Lists.{if_then_else_, bit, within, when, is-empty, bind, count-up}
 use Rattle.lists.specs.Tables.{tabulate}
 use Rattle.lists.proofs.Lists.{clash}
-use Rattle.lists.proofs.Bind.{append-nil}
 use Rattle.lists.proofs.Cuts.{count-up-next, count-up-none}
 use Rattle.lists.proofs.Search.{bind-assoc, map-keep-bind, bind-same, bind-tabulate, map-places, by-fours, Only, only-none, only-more, only-when, only-if, only-bind, only-chain, only-map}
 use Rattle.model.specs.declared.Row.{Row}
@@ -21,19 +22,9 @@ use Rattle.model.specs.Matching.{Candidate, candidate, atom-candidates, justifi
 use Rattle.state.specs.declared.Scalars.{Scalars}
 use Rattle.state.specs.View.{atom-at, plan-at, config-of}
 use Rattle.queries.specs.declared.Columns.{Columns}
-use Rattle.queries.specs.declared.Match.{Match}
-use Rattle.queries.specs.declared.Answer.{Answer}
-use Rattle.queries.specs.View.{found-of, candidate-of, match-of}
-use Rattle.queries.specs.Answers.{taken, atom-candidate, justification-candidate, count-of, candidate-at, fit-at, hits, answers, onward, settled, closed}
+use Rattle.queries.specs.View.{found-in, Kept, candidate-of}
+use Rattle.queries.specs.Answers.{taken, tried, atom-candidate, justification-candidate, count-of, candidate-at, fit-at, hits, answers, width, given-ids, onward, settled, closed}
 use Rattle.queries.proofs.Laws.{justifications-few}
-
--- a candidate that does not fit, and one that does
-module _ (m : Match) where
-  pub match-none : m .found ≡ false → match-of m ≡ []
-  match-none h = ap (λ (b : Bool). when b (found-of (m .bindings))) h
-
-  pub match-one : m .found ≡ true → match-of m ≡ found-of (m .bindings) ∷ []
-  match-one h = ap (λ (b : Bool). when b (found-of (m .bindings))) h
 
 module _ (words : List ℕ) (s : Scalars) (r : Row) (f : Found) (c : ℕ) where
   pub hits-end : count-of s r ≤ c → hits words s r f c ≡ []
@@ -47,50 +38,65 @@ module _ (words : List ℕ) (s : Scalars) (r : Row) (f : Found) (c : ℕ) where
   pub hits-skip : c < count-of s r → fit-at words s r f c ≡ [] → hits words s r f c ≡ hits words s r f (c + 1)
   hits-skip h e = hits-step h ∙ ap (λ (l : List Found). l ++ hits words s r f (c + 1)) e
 
-  -- candidate c is not there; it does not fit; it does
-  module _ (h : c < count-of s r) (x : Columns) (is : candidate-of x ≡ candidate-at words s r c) where
-    fit-is : x .there ≡ true → fit-at words s r f c ≡ taken r (candidate (x .i) (x .a) (x .b)) f
-    unfolding fit-at
-    fit-is t =
-        ap (λ (l : List Candidate). bind l (λ k. taken r k f)) (sym is ∙ ap (λ (b : Bool). when b (candidate (x .i) (x .a) (x .b))) t)
-        ∙ append-nil (taken r (candidate (x .i) (x .a) (x .b)) f)
+  -- candidate c does not fit; it does
+  module _ (h : c < count-of s r) (x : Columns) (is : candidate-of x ≡ candidate-at words s r c) (fits : Bool) (g : Found) (e : when fits g ≡ tried r x f) where
+    fit-is : when fits g ≡ fit-at words s r f c
+    unfolding tried fit-at
+    fit-is = e ∙ ap (λ (l : List Candidate). bind l (λ k. taken r k f)) is
 
-    pub hits-absent : x .there ≡ false → hits words s r f c ≡ hits words s r f (c + 1)
-    unfolding fit-at
-    hits-absent t = hits-skip h (ap (λ (l : List Candidate). bind l (λ k. taken r k f)) (sym is ∙ ap (λ (b : Bool). when b (candidate (x .i) (x .a) (x .b))) t))
+    pub hits-none : fits ≡ false → hits words s r f c ≡ hits words s r f (c + 1)
+    hits-none n = hits-skip h (sym fit-is ∙ ap (λ (b : Bool). when b g) n)
 
-    module _ (t : x .there ≡ true) (m : Match) (e : match-of m ≡ taken r (candidate (x .i) (x .a) (x .b)) f) where
-      pub hits-none : m .found ≡ false → hits words s r f c ≡ hits words s r f (c + 1)
-      hits-none n = hits-skip h (fit-is t ∙ sym e ∙ match-none m n)
+    pub hits-one : fits ≡ true → hits words s r f c ≡ g ∷ hits words s r f (c + 1)
+    hits-one n = hits-step h ∙ ap (λ (l : List Found). l ++ hits words s r f (c + 1)) (sym fit-is ∙ ap (λ (b : Bool). when b g) n)
 
-      pub hits-one : m .found ≡ true → hits words s r f c ≡ found-of (m .bindings) ∷ hits words s r f (c + 1)
-      hits-one n = hits-step h ∙ ap (λ (l : List Found). l ++ hits words s r f (c + 1)) (fit-is t ∙ sym e ∙ match-one m n)
+-- an answer with what comes after it: there is none, or there is
+module _ (rest : ℕ → List Found) (f : Found) (n : ℕ) where
+  pub onward-none : n ≡ 0 → onward rest f n ≡ []
+  onward-none e = ap (λ (b : Bool). if b then [] else f ∷ rest n) (eq-eqb n 0 e)
 
--- an answer that is there
-pub onward-one : (rest : ℕ → List Found) (x : Answer) (n : ℕ) → x .found ≡ true → x .next ≡ n → found-of (x .bindings) ∷ rest n ≡ onward rest x
-onward-one rest x n t e = sym (ap (λ (b : Bool). if b then found-of (x .bindings) ∷ rest (x .next) else []) t ∙ ap (λ (m : ℕ). found-of (x .bindings) ∷ rest m) e)
+  pub onward-one : n ≢ 0 → onward rest f n ≡ f ∷ rest n
+  onward-one e = ap (λ (b : Bool). if b then [] else f ∷ rest n) (ne-eqb n 0 e)
+
+-- a negation has one answer at most, and it adds no id
+module _ (r : Row) (z : r .op % 2 ≡ 0) where
+  pub one-wide : (s : Scalars) → width s r ≡ 1
+  unfolding width
+  one-wide s = rw (eq-eqb (r .op % 2) 0 z)
+
+  pub found-still : (v u m l : List ℕ) (n : ℕ) → u ≡ v → Kept n m l → _≡_ {A = Found} (found-in v m n) (found-in u l (n + given-ids r))
+  unfolding given-ids
+  found-still v u m l n e k = rw (eq-eqb (r .op % 2) 0 z, add-zero n, k, e)
+
+-- a row adds an id at most if it is a reason
+pub ids-few : (r : Row) → given-ids r ≤ bit (eqb (r .part) 1)
+unfolding given-ids
+ids-few r = at (negation r)
+  where
+    at : (b : Bool) → (if b then 0 else bit (eqb (r .part) 1)) ≤ bit (eqb (r .part) 1)
+    at true = omega arith
+    at false = omega arith
 
 -- what a negation gives
-denied : (b : Bool) (v : Found) (f : Found) (r l : List Found) → l ≡ (if b then v ∷ r else []) → when (is-empty l) f ≡ (if not b then f ∷ [] else [])
-denied true v f r l is = ap (λ (k : List Found). when (is-empty k) f) is
-denied false v f r l is = ap (λ (k : List Found). when (is-empty k) f) is
-
 module _ (words : List ℕ) (s : Scalars) (r : Row) (f : Found) (z : r .op % 2 ≡ 0) where
-  pub negation-first : (x : Answer) → hits words s r f 0 ≡ onward (hits words s r f) x → answers words s r f 0 ≡ (if not (x .found) then f ∷ answers words s r f 1 else [])
+  denied : answers words s r f 0 ≡ when (is-empty (hits words s r f 0)) f
   unfolding answers
-  negation-first x is = rw (eq-eqb (r .op % 2) 0 z) (denied (x .found) (found-of (x .bindings)) f (hits words s r f (x .next)) (hits words s r f 0) is)
+  denied = rw (eq-eqb (r .op % 2) 0 z)
 
-  pub negation-later : (c : ℕ) → (c ≡ 0 → ⊥) → answers words s r f c ≡ []
+  pub negation-later : (c : ℕ) → c ≢ 0 → answers words s r f c ≡ []
   unfolding answers
   negation-later c n = rw (eq-eqb (r .op % 2) 0 z, ne-eqb c 0 n)
 
--- an answer with what comes after it
-module _ (words : List ℕ) (s : Scalars) (r : Row) (f : Found) (x : Answer) (l : List Found) (is : l ≡ onward (answers words s r f) x) where
-  pub answer-none : x .found ≡ false → l ≡ []
-  answer-none n = is ∙ ap (λ (t : Bool). if t then found-of (x .bindings) ∷ answers words s r f (x .next) else []) n
+  module _ (g : Found) (n : ℕ) (is : hits words s r f 0 ≡ onward (hits words s r f) g n) where
+    -- no candidate fits
+    pub negation-holds : n ≡ 0 → answers words s r f 0 ≡ f ∷ answers words s r f 1
+    negation-holds e =
+        denied ∙ ap (λ (l : List Found). when (is-empty l) f) (is ∙ onward-none (hits words s r f) g n e)
+        ∙ ap {B = List Found} (λ (l : List Found). f ∷ l) (sym (negation-later 1 (λ q. absurd (omega (arith, q)))))
 
-  pub answer-one : x .found ≡ true → l ≡ found-of (x .bindings) ∷ answers words s r f (x .next)
-  answer-one n = is ∙ ap (λ (t : Bool). if t then found-of (x .bindings) ∷ answers words s r f (x .next) else []) n
+    -- one does
+    pub negation-fails : n ≢ 0 → answers words s r f 0 ≡ []
+    negation-fails e = denied ∙ ap (λ (l : List Found). when (is-empty l) f) (is ∙ onward-one (hits words s r f) g n e)
 
 -- a choice between two kinds of candidates, each by number
 either : {A : Type 0} (b : Bool) (X Y : List A) (f g : ℕ → List A) (n m : ℕ) → X ≡ bind (count-up 0 n) f → Y ≡ bind (count-up 0 m) g →

@@ -1,12 +1,13 @@
 -- Candidates that are passed over: none of them fits, so what a row gives from the first of them on is what it gives behind the last.
 use mathlib.Core.Path.{_≡_, refl, sym, ap, _∙_, subst}
 use mathlib.Core.Bool.{Bool, true, false, not, _&&_, _||_, and-eq-true-iff}
+use mathlib.Core.Logic.{_≢_}
 use mathlib.Core.List.{List, [], _++_, map}
 use Prim.Native.Nat.{ℕ, zero, suc, _+_, _-_, _*_, _/_, _%_, _≤_, _<_}
 use native.Mathlib.Omega.{arith}
-use lib.Dec.{ltb}
+use lib.Dec.{ltb, eqb}
 use lib.ListN.{length, getD}
-use borrow.Author.Tests.{ltb-true, ltb-false, le-ltb, not-false}
+use borrow.Author.Tests.{ltb-true, ltb-false, le-ltb, eqb-false, not-true, not-false}
 use Rattle.lists.specs.Lists.{when, bind}
 use Rattle.lists.proofs.Lists.{or-right}
 use Rattle.lists.proofs.Tests.{or-left}
@@ -46,6 +47,30 @@ module _ (i a b : Wanted) where
       at : (t : Bool) → (t && not (is-unlike i a b x)) ≡ false → Missed i a b (when t (candidate (x .i) (x .a) (x .b)))
       at false h = missed-absent false (candidate (x .i) (x .a) (x .b)) refl
       at true h = missed-column true x (not-false _ h)
+
+-- four numbers in turn, none of which is p
+pub four-others : (f : ℕ → ℕ) (p c w x y z : ℕ) → w ≡ f c → x ≡ f (c + 1) → y ≡ f (c + 2) → z ≡ f (c + 3) → ((not (eqb w p) && not (eqb x p)) && (not (eqb y p) && not (eqb z p))) ≡ true →
+    (k : ℕ) → c ≤ k → k < c + 4 → f k ≢ p
+four-others f p c w x y z a b d e h k l m = at (k - c) (omega arith) (omega arith)
+  where
+    both : ((not (eqb w p) && not (eqb x p)) ≡ true) × ((not (eqb y p) && not (eqb z p)) ≡ true)
+    both = and-eq-true-iff (not (eqb w p) && not (eqb x p)) (not (eqb y p) && not (eqb z p)) .0 h
+
+    low : (not (eqb w p) ≡ true) × (not (eqb x p) ≡ true)
+    low = and-eq-true-iff (not (eqb w p)) (not (eqb x p)) .0 (both .0)
+
+    high : (not (eqb y p) ≡ true) × (not (eqb z p) ≡ true)
+    high = and-eq-true-iff (not (eqb y p)) (not (eqb z p)) .0 (both .1)
+
+    other : (n m : ℕ) → n ≡ f m → not (eqb n p) ≡ true → k ≡ m → f k ≢ p
+    other n m e t q v = eqb-false n p (not-true (eqb n p) t) (e ∙ ap f (sym q) ∙ v)
+
+    at : (j : ℕ) → j < 4 → k ≡ c + j → f k ≢ p
+    at zero g q = other w c a (low .0) (omega arith)
+    at (suc zero) g q = other x (c + 1) b (low .1) (omega arith)
+    at (suc (suc zero)) g q = other y (c + 2) d (high .0) (omega arith)
+    at (suc (suc (suc zero))) g q = other z (c + 3) e (high .1) (omega arith)
+    at (suc (suc (suc (suc j)))) g q = absurd (omega arith)
 
 -- a candidate that is like what is wanted, test by test
 pub not-like : (i a b : Wanted) (x : Columns) → is-unlike i a b x ≡ true → false ≡ is-like i a b x

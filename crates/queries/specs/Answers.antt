@@ -1,11 +1,12 @@
 -- A row's candidates by number, and what the row gives from a number on.
 use mathlib.Core.Path.{_≡_}
-use mathlib.Core.Bool.{Bool, true, not, _&&_, _||_}
+use mathlib.Core.Bool.{Bool, not, _&&_, _||_}
+use mathlib.Core.Logic.{_≢_}
 use mathlib.Core.List.{List, [], _∷_, map}
 use Prim.Native.Nat.{ℕ, _-_, _*_, _/_, _%_, _<_, _≤_}
 use lib.Dec.{eqb, ltb}
 use lib.ListN.{length, getD}
-use Rattle.lists.specs.Lists.{if_then_else_, within, when, is-empty, bind, count-up}
+use Rattle.lists.specs.Lists.{if_then_else_, bit, within, when, is-empty, bind, count-up}
 use Rattle.model.specs.declared.Row.{Row}
 use Rattle.model.specs.declared.Atom.{Atom}
 use Rattle.model.specs.Program.{any?, constant?, constant}
@@ -13,13 +14,17 @@ use Rattle.model.specs.Configuration.{Plan, no-value, value-of, has-flag}
 use Rattle.model.specs.Matching.{Candidate, candidate, Found, found, fit, negation}
 use Rattle.state.specs.declared.Scalars.{Scalars}
 use Rattle.state.specs.View.{atom-at, plan-at}
-use Rattle.queries.specs.declared.Answer.{Answer}
+use Rattle.queries.specs.declared.Columns.{Columns}
 use Rattle.queries.specs.declared.Wanted.{Wanted}
-use Rattle.queries.specs.View.{found-of, Wants}
+use Rattle.queries.specs.View.{candidate-of, Wants}
 
 -- what is found after a candidate
 unfoldable pub taken : Row → Candidate → Found → List Found
 taken r k f = map (found r k f) (fit r k (f .values))
+
+-- after a candidate that may not be there
+unfoldable pub tried : Row → Columns → Found → List Found
+tried r x f = bind (candidate-of x) (λ k. taken r k f)
 
 -- what an atom, a plan gives as a candidate, by query
 abbrev pub atom-candidate : ℕ → Atom → List Candidate
@@ -79,15 +84,18 @@ answers words s r f c =
 unfoldable pub width : Scalars → Row → ℕ
 width s r = if negation r then 1 else count-of s r
 
--- an answer and what comes after it
-abbrev pub onward : (ℕ → List Found) → Answer → List Found
-onward rest x = if x .found then found-of (x .bindings) ∷ rest (x .next) else []
+-- how many ids a row adds to those that were matched
+unfoldable pub given-ids : Row → ℕ
+given-ids r = if negation r then 0 else bit (eqb (r .part) 1)
+
+-- an answer, with n the number behind it, and what comes after it
+abbrev pub onward : (ℕ → List Found) → Found → ℕ → List Found
+onward rest f n = if eqb n 0 then [] else f ∷ rest n
 
 -- the first answer from number c on, of a row whose answers are numbered below the limit
-pub record Next (rest : ℕ → List Found) (c limit most : ℕ) (x : Answer) : Type 0 where
-  pub is : rest c ≡ onward rest x
-  pub further : x .found ≡ true → (c < x .next) × (x .next ≤ limit)
-  pub few : x .bindings .count ≤ most
+pub record Next (rest : ℕ → List Found) (c limit : ℕ) (f : Found) (n : ℕ) : Type 0 where
+  pub is : rest c ≡ onward rest f n
+  pub further : n ≢ 0 → (c < n) × (n ≤ limit)
 
 -- none of these candidates fits a row that wants these numbers
 pub record Missed (i a b : Wanted) (l : List Candidate) : Type 0 where
@@ -107,5 +115,5 @@ unfoldable pub closed : Row → List ℕ → Bool
 closed r values = not (eqb (r .part) 1) && (settled values (r .i) && (settled values (r .a) && settled values (r .b)))
 
 unfoldable pub opened : Unit {0}
-unfolding taken count-of candidate-at fit-at hits answers width closed
+unfolding taken tried count-of candidate-at fit-at hits answers width given-ids closed
 opened = tt

@@ -15,23 +15,25 @@ use Rattle.state.specs.View.{plan-at, AtomsRise, PlansRise}
 use Rattle.queries.specs.declared.Bindings.{Bindings}
 use Rattle.queries.specs.declared.Columns.{Columns}
 use Rattle.queries.specs.declared.Wanted.{Wanted}
-use Rattle.queries.specs.declared.Match.{Match}
-use Rattle.queries.specs.declared.Answer.{Answer}
 
--- the values so far, and the ids that the reasons matched
+-- the values so far, and the ids that the reasons matched, of which there are n
+abbrev pub found-in : List ℕ → List ℕ → ℕ → Found
+found-in values matched n = record { values = values; matched = take n matched }
+
 abbrev pub found-of : Bindings → Found
-found-of f = record { values = f .values; matched = take (f .count) (f .matched) }
+found-of f = found-in (f .values) (f .matched) (f .count)
+
+-- eight values, and room for four ids
+abbrev pub Sized : List ℕ → List ℕ → Type 0
+Sized values matched = (length values ≡ 8) × (length matched ≡ 4)
+
+-- the first n ids are what they were
+abbrev pub Kept : ℕ → List ℕ → List ℕ → Type 0
+Kept n before after = take n after ≡ take n before
 
 -- one answer or none
 abbrev pub candidate-of : Columns → List Candidate
 candidate-of x = when (x .there) (candidate (x .i) (x .a) (x .b))
-
-abbrev pub match-of : Match → List Found
-match-of m = when (m .found) (found-of (m .bindings))
-
--- an answer by itself
-abbrev pub match-in : Answer → Match
-match-in x = record { bindings = x .bindings; found = x .found }
 
 -- words of a configuration: as many as there are, no more live than may, sixteen flags to a plan, rising ids
 pub record Limits (words : List ℕ) (s : Scalars) : Type 0 where
@@ -43,13 +45,8 @@ pub record Limits (words : List ℕ) (s : Scalars) : Type 0 where
   pub plans-rise : PlansRise (s .plans) words
 
 -- how many ids may be matched after the row
-abbrev pub room : Row → Bindings → ℕ
-room r f = f .count + bit (eqb (r .part) 1)
-
--- what a candidate gave is l, with no more ids matched than may be
-pub record Fitted (l : List Found) (most : ℕ) (m : Match) : Type 0 where
-  pub is : match-of m ≡ l
-  pub few : m .bindings .count ≤ most
+abbrev pub room : Row → ℕ → ℕ
+room r n = n + bit (eqb (r .part) 1)
 
 -- values that others may come to: what has a value keeps it
 abbrev pub Grown : List ℕ → List ℕ → Type 0

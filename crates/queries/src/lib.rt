@@ -11,8 +11,8 @@ ghost use Rattle.model.specs.Configuration.{has-flag};
 ghost use Rattle.model.specs.Matching.{candidate, meet as met-with, fit as fit-of};
 ghost use Rattle.state.specs.View.{atom-at, plan-at};
 ghost use Rattle.queries.specs.declared.Wanted.{Wanted};
-ghost use Rattle.queries.specs.View.{found-of, candidate-of, match-in, Limits, room, Fitted, Wants, unlike, is-like, lacks};
-ghost use Rattle.queries.specs.Answers.{taken, atom-candidate, plan-candidate, remainder-candidate, justification-candidate, subgoal-candidate, state-candidate, count-of, candidate-at, hits, answers, width, Next, Skipped, settled, closed};
+ghost use Rattle.queries.specs.View.{found-in, candidate-of, Limits, room, Sized, Kept, Wants, unlike, is-like, lacks};
+ghost use Rattle.queries.specs.Answers.{tried, atom-candidate, plan-candidate, remainder-candidate, justification-candidate, subgoal-candidate, state-candidate, count-of, candidate-at, hits, answers, width, given-ids, Next, Skipped, settled, closed};
 
 // What is found so far: the values of variables 1 to 8, and the ids that the reasons matched, of which there are `count`.
 pub struct Bindings {
@@ -35,23 +35,11 @@ pub struct Wanted {
     pub known: bool,
 }
 
-// What is found after a candidate, if it fits.
-pub struct Match {
-    pub bindings: Bindings,
-    pub found: bool,
-}
-
-// An answer of a row, if there is one, and the number from which the next is looked for.
-pub struct Answer {
-    pub bindings: Bindings,
-    pub next: usize,
-    pub found: bool,
-}
-
 // "A variable without a value takes the candidate's; one with a value must equal it." False where it does not fit.
-fn meet(x: u32, n: u32, values: &mut [u32]) -> bool
+fn meet(x: u32, n: u32, values: &mut [u32; 8]) -> bool
     requires { ⌜ length (now values) ≡ 8 ⌝ }
-    ensures { λ b. ⌜ when b (now (values .exit)) ≡ met-with x n (now (values .entry)) ⌝ }
+    ensures long { λ _. ⌜ length (now (values .exit)) ≡ 8 ⌝ }
+    ensures is { λ b. ⌜ when b (now (values .exit)) ≡ met-with x n (now (values .entry)) ⌝ }
 {
     if x == 0 {
         return true;
@@ -69,9 +57,10 @@ fn meet(x: u32, n: u32, values: &mut [u32]) -> bool
 }
 
 // The three operands of a row against what stands in a candidate's columns.
-fn fit(r: Row, i: u32, a: u32, b: u32, values: &mut [u32]) -> bool
+fn fit(r: Row, i: u32, a: u32, b: u32, values: &mut [u32; 8]) -> bool
     requires { ⌜ length (now values) ≡ 8 ⌝ }
-    ensures { λ m. ⌜ when m (now (values .exit)) ≡ fit-of r (candidate i a b) (now (values .entry)) ⌝ }
+    ensures long { λ _. ⌜ length (now (values .exit)) ≡ 8 ⌝ }
+    ensures is { λ m. ⌜ when m (now (values .exit)) ≡ fit-of r (candidate i a b) (now (values .entry)) ⌝ }
 {
     if !meet(r.i, i, values) {
         return false;
@@ -82,43 +71,25 @@ fn fit(r: Row, i: u32, a: u32, b: u32, values: &mut [u32]) -> bool
     meet(r.b, b, values)
 }
 
-// What is found after a candidate: of a reason its id too. The answer is looked for from `next` on afterwards.
-fn take(r: Row, i: u32, a: u32, b: u32, next: usize, f: Bindings) -> Answer
-    requires { ⌜ room r f ≤ 4 ⌝ }
-    ensures { λ x. ⌜ Fitted (taken r (candidate i a b) (found-of f)) (room r f) (match-in x) ⌝ }
-    ensures next { λ x. ⌜ x .next ≡ next ⌝ }
+// A candidate into what is found so far: its values, and of a reason its id behind `count` others. False where it is not there or does
+// not fit.
+fn take(r: Row, x: Columns, count: usize, values: &mut [u32; 8], matched: &mut [u32; 4]) -> bool
+    requires { ⌜ (room r count ≤ 4) × Sized (now values) (now matched) ⌝ }
+    ensures sized { λ _. ⌜ Sized (now (values .exit)) (now (matched .exit)) ⌝ }
+    ensures is { λ b. ⌜ when b (found-in (now (values .exit)) (now (matched .exit)) (room r count)) ≡ tried r x (found-in (now (values .entry)) (now (matched .entry)) count) ⌝ }
+    ensures kept { λ _. ⌜ Kept count (now (matched .entry)) (now (matched .exit)) ⌝ }
 {
-    let mut values = f.values;
-    if !fit(r, i, a, b, &mut values) {
-        return Answer {
-            bindings: f,
-            next,
-            found: false,
-        };
+    if !x.there {
+        return false;
     }
-    let mut matched = f.matched;
-    let count = f.count;
+    if !fit(r, x.i, x.a, x.b, values) {
+        return false;
+    }
     if r.part == 1 {
-        matched[count] = i;
-        return Answer {
-            bindings: Bindings {
-                values,
-                matched,
-                count: count + 1,
-            },
-            next,
-            found: true,
-        };
+        matched[count] = x.i;
+        return true;
     }
-    Answer {
-        bindings: Bindings {
-            values,
-            matched,
-            count,
-        },
-        next,
-        found: true,
-    }
+    true
 }
 
 // "1 atom (i, p, a, b)": atom k, if its predicate is p.
@@ -247,7 +218,7 @@ fn state_candidate(words: &[u32], x: u32, k: usize) -> Columns
 }
 
 // How many candidates are numbered.
-fn count(s: Scalars, r: Row) -> usize
+fn candidates(s: Scalars, r: Row) -> usize
     ensures { λ n. ⌜ n ≡ count-of s r ⌝ }
 {
     let op = r.op;
@@ -352,6 +323,21 @@ fn is_like(i: Wanted, a: Wanted, b: Wanted, x: Columns) -> bool
     !is_unlike(i, x.i)
 }
 
+// Four atoms, from c on, of other predicates: most atoms are passed over so.
+fn are_others(words: &[u32], p: u32, c: usize, n: usize) -> bool
+    requires { ⌜ (length (now words) ≡ 2432) × (c < n) × (n ≤ 256) ⌝ }
+    ensures { λ r. ⌜ (r ≡ true → (c + 4 ≤ n) × ((k : ℕ) → c ≤ k → k < c + 4 → atom-at (now (words .entry)) k .p ≢ p)) ⌝ }
+{
+    if n < c + 4 {
+        return false;
+    }
+    let first = state::atom_at(words, c);
+    let second = state::atom_at(words, c + 1);
+    let third = state::atom_at(words, c + 2);
+    let fourth = state::atom_at(words, c + 3);
+    ((first.p != p) & (second.p != p)) & ((third.p != p) & (fourth.p != p))
+}
+
 // The first candidate from `from` on that is like what is wanted, or n; of atoms, and so on by query.
 fn skip_atoms(
     words: &[u32],
@@ -367,6 +353,10 @@ fn skip_atoms(
 {
     let mut c = from;
     while c < n {
+        if are_others(words, p, c, n) {
+            c += 4;
+            continue;
+        }
         let x = atom_candidate(words, p, c);
         if is_like(i, a, b, x) {
             return c;
@@ -574,59 +564,82 @@ fn skip(words: &[u32], s: Scalars, r: Row, i: Wanted, a: Wanted, b: Wanted, from
     from
 }
 
-// The first candidate from `from` on that fits.
-fn next_fit(words: &[u32], s: Scalars, r: Row, from: usize, f: Bindings) -> Answer
-    requires { ⌜ Limits (now words) s × (room r f ≤ 4) ⌝ }
-    ensures { λ x. ⌜ Next (hits (now (words .entry)) s r (found-of f)) from (count-of s r) (room r f) x ⌝ }
+// The first candidate from `from` on that fits, into what is found so far: the number behind it, or 0. `before` is what the values are.
+fn next_fit(
+    words: &[u32],
+    s: Scalars,
+    r: Row,
+    from: usize,
+    before: [u32; 8],
+    count: usize,
+    values: &mut [u32; 8],
+    matched: &mut [u32; 4],
+) -> usize
+    requires { ⌜ Limits (now words) s × (room r count ≤ 4) × Sized (now values) (now matched) × (now values ≡ before) ⌝ }
+    ensures sized { λ _. ⌜ Sized (now (values .exit)) (now (matched .exit)) ⌝ }
+    ensures is { λ n. ⌜ Next (hits (now (words .entry)) s r (found-in before (now (matched .entry)) count)) from (count-of s r) (found-in (now (values .exit)) (now (matched .exit)) (room r count)) n ⌝ }
+    ensures back { λ n. ⌜ (n ≡ 0 → now (values .exit) ≡ before) ⌝ }
+    ensures kept { λ _. ⌜ Kept count (now (matched .entry)) (now (matched .exit)) ⌝ }
 {
-    let n = count(s, r);
-    let values = f.values;
-    let i = wanted_by(r.i, &values);
-    let a = wanted_by(r.a, &values);
-    let b = wanted_by(r.b, &values);
-    let mut next = from;
-    loop {
-        let c = skip(words, s, r, i, a, b, next);
-        if n <= c {
-            return Answer {
-                bindings: f,
-                next: 0,
-                found: false,
-            };
-        }
-        next = c + 1;
+    let n = candidates(s, r);
+    let i = wanted_by(r.i, &before);
+    let a = wanted_by(r.a, &before);
+    let b = wanted_by(r.b, &before);
+    let mut c = skip(words, s, r, i, a, b, from);
+    while c < n {
         let x = candidate_at(words, s, r, c);
-        if !x.there {
-            continue;
+        c += 1;
+        if take(r, x, count, values, matched) {
+            return c;
         }
-        let m = take(r, x.i, x.a, x.b, next, f);
-        if m.found {
-            return m;
-        }
+        *values = before;
+        c = skip(words, s, r, i, a, b, c);
     }
+    0
 }
 
-// What a row gives, from number c on: a query each candidate that fits, a negation what was found before, if none fits.
-pub fn next_answer(words: &[u32], s: Scalars, r: Row, c: usize, f: Bindings) -> Answer
-    requires { ⌜ Limits (now words) s × (room r f ≤ 4) ⌝ }
-    ensures { λ x. ⌜ Next (answers (now (words .entry)) s r (found-of f)) c (width s r) (room r f) x ⌝ }
+// What a row gives, from number c on: a query each candidate that fits, a negation what was found before, if none fits. The number
+// behind the answer, or 0.
+pub fn next_answer(
+    words: &[u32],
+    s: Scalars,
+    r: Row,
+    c: usize,
+    before: [u32; 8],
+    count: usize,
+    values: &mut [u32; 8],
+    matched: &mut [u32; 4],
+) -> usize
+    requires { ⌜ Limits (now words) s × (room r count ≤ 4) × Sized (now values) (now matched) × (now values ≡ before) ⌝ }
+    ensures sized { λ _. ⌜ Sized (now (values .exit)) (now (matched .exit)) ⌝ }
+    ensures is { λ n. ⌜ Next (answers (now (words .entry)) s r (found-in before (now (matched .entry)) count)) c (width s r) (found-in (now (values .exit)) (now (matched .exit)) (count + given-ids r)) n ⌝ }
+    ensures back { λ n. ⌜ (n ≡ 0 → now (values .exit) ≡ before) ⌝ }
+    ensures kept { λ _. ⌜ Kept count (now (matched .entry)) (now (matched .exit)) ⌝ }
+{
+    if r.op % 2 == 1 {
+        return next_fit(words, s, r, c, before, count, values, matched);
+    }
+    if 0 < c {
+        return 0;
+    }
+    if next_fit(words, s, r, 0, before, count, values, matched) == 0 {
+        return 1;
+    }
+    *values = before;
+    0
+}
+
+// How many ids a row adds to those that were matched: a reason its candidate's, a negation none.
+pub fn given_ids(r: Row) -> usize
+    ensures { λ n. ⌜ n ≡ given-ids r ⌝ }
 {
     if r.op % 2 == 0 {
-        if c == 0 {
-            let x = next_fit(words, s, r, 0, f);
-            return Answer {
-                bindings: f,
-                next: 1,
-                found: !x.found,
-            };
-        }
-        return Answer {
-            bindings: f,
-            next: 0,
-            found: false,
-        };
+        return 0;
     }
-    next_fit(words, s, r, c, f)
+    if r.part != 1 {
+        return 0;
+    }
+    1
 }
 
 // Whether an operand takes no value: any, a constant, a variable with a value.

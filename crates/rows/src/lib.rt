@@ -1,5 +1,5 @@
-// The tests on the rows of a program, in the order 5, 3, 4. Each is made of `&`, `|` and `!`, which the model's `&&`, `||` and
-// `not` are.
+// The tests on the rows of a program, in the order 5, 3, 4. Most are made of `&`, `|` and `!`, which the model's `&&`, `||` and `not`
+// are; those that lead to others by the row's set or part take that way alone, since every call tests its program.
 use model::Row;
 ghost use mathlib.Core.Path.{_≡_};
 ghost use mathlib.Core.List.{List, []};
@@ -163,10 +163,19 @@ fn plan_step(r: Row) -> bool
 fn rule_row(s: RuleScan, r: Row) -> bool
     ensures { λ b. ⌜ b ≡ rule-row (whole s []) r ⌝ }
 {
-    (r.part == 1) & (r.op == 1) & query(r)
-        | (r.part == 2) & query(r) & (!s.object | (r.op <= 2))
-        | (r.part == 3) & s.object & plan_step(r)
-        | (r.part == 3) & !s.object & action(s, r)
+    if r.part == 1 {
+        return (r.op == 1) & query(r);
+    }
+    if r.part == 2 {
+        return query(r) & (!s.object | (r.op <= 2));
+    }
+    if r.part != 3 {
+        return false;
+    }
+    if s.object {
+        return plan_step(r);
+    }
+    action(s, r)
 }
 
 // 3: "A set holds one kind, that of its first rule; a row against it is 3."
@@ -204,10 +213,16 @@ fn breaks(s: RuleScan, t: RuleScan, ceilings: &[u8], r: Row) -> bool
     requires { ⌜ Small (whole s []) × (length (now ceilings) ≡ 256) × (r .p ≤ 255) ⌝ }
     ensures { λ b. ⌜ b ≡ is-breaking (whole s (now (ceilings .entry))) (whole t (now (ceilings .entry))) r ⌝ }
 {
-    !in_order(s, r)
-        | against_kind(s, r)
-        | (r.set == 0) & !set_0_row(s, ceilings, r)
-        | (1 <= r.set) & !rule_row(t, r)
+    if !in_order(s, r) {
+        return true;
+    }
+    if against_kind(s, r) {
+        return true;
+    }
+    if r.set == 0 {
+        return !set_0_row(s, ceilings, r);
+    }
+    !rule_row(t, r)
 }
 
 // 4: "body variable without value"
@@ -215,10 +230,12 @@ fn valueless(s: RuleScan, r: Row) -> bool
     ensures { λ b. ⌜ b ≡ is-valueless (whole s []) r ⌝ }
 {
     let valued = s.valued;
-    (r.part == 3)
-        & (new_variable(valued, r.a)
-            | new_variable(valued, r.b)
-            | !(r.op == 21) & new_variable(valued, r.i))
+    if r.part != 3 {
+        return false;
+    }
+    new_variable(valued, r.a)
+        | new_variable(valued, r.b)
+        | !(r.op == 21) & new_variable(valued, r.i)
 }
 
 fn give(x: u32, valued: [u8; 9]) -> [u8; 9]

@@ -9,54 +9,36 @@ use Rattle.queries.proofs.fit.Tie as tie
 meet-requires : tie.Need-meet-requires
 meet-requires c κs = search needs
 
-same-length : tie.Need-same-length
-same-length c = search needs
-
 returns : tie.Need-returns
 unfolding fit
-returns c = let m = c .before .before .before in stop (m .meet .result) _ _ _ (m .meet .ensures) (not-true _ (c .if1 .taken))
+returns c = let m = c .before in (m .meet .ensures .0, stop (m .meet .result) _ _ _ (m .meet .ensures .1) (not-true _ (c .if1 .taken)))
 
 meet-requires-2 : tie.Need-meet-requires-2
-meet-requires-2 c κs = search needs
-
-same-length-2 : tie.Need-same-length-2
-same-length-2 c = search needs
+meet-requires-2 c κs = c .before .before .meet .ensures .0
 
 returns-2 : tie.Need-returns-2
 unfolding fit
 returns-2 c =
-    let n = c .before .before .before in
+    let n = c .before in
     let i = n .before .before in
-    let m = i .before .before .before in
-    go (m .meet .result) _ _ _ (m .meet .ensures) (not-false _ (i .if1 .left)) (stop (n .meet2 .result) _ _ _ (n .meet2 .ensures) (not-true _ (c .if2 .taken)))
+    let m = i .before in
+    (n .meet2 .ensures .0, go (m .meet .result) _ _ _ (m .meet .ensures .1) (not-false _ (i .if1 .left)) (stop (n .meet2 .result) _ _ _ (n .meet2 .ensures .1) (not-true _ (c .if2 .taken))))
 
 meet-requires-3 : tie.Need-meet-requires-3
-meet-requires-3 c κs = search needs
-
-same-length-3 : tie.Need-same-length-3
-same-length-3 c = search needs
+meet-requires-3 c κs = c .before .before .meet2 .ensures .0
 
 returns-3 : tie.Need-returns-3
 unfolding fit
 returns-3 c =
-    let l = c .before .before in
-    let j = l .before .before in
-    let n = j .before .before .before in
+    let j = c .before .before in
+    let n = j .before in
     let i = n .before .before in
-    let m = i .before .before .before in
-    go (m .meet .result) _ _ _ (m .meet .ensures) (not-false _ (i .if1 .left))
-    (go (n .meet2 .result) _ _ _ (n .meet2 .ensures) (not-false _ (j .if2 .left)) (l .meet3 .ensures))
+    let m = i .before in (
+      c .meet3 .ensures .0,
+      go (m .meet .result) _ _ _ (m .meet .ensures .1) (not-false _ (i .if1 .left))
+          (go (n .meet2 .result) _ _ _ (n .meet2 .ensures .1) (not-false _ (j .if2 .left)) (c .meet3 .ensures .1)),
+    )
 
 pub fit-spec : {M : Type 1} → statement M
 fit-spec =
-    tie.close
-    (tie.spec
-    meet-requires
-    same-length
-    returns
-    meet-requires-2
-    same-length-2
-    returns-2
-    meet-requires-3
-    same-length-3
-    returns-3)
+    tie.close (tie.spec meet-requires returns meet-requires-2 returns-2 meet-requires-3 returns-3)

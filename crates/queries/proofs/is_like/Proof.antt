@@ -1,5 +1,5 @@
 -- One test after the other.
-use mathlib.Core.Path.{_≡_, sym, ap, _∙_}
+use mathlib.Core.Path.{sym, ap, _∙_}
 use mathlib.Core.Bool.{Bool, not, _&&_}
 use borrow.Author.Needs.{needs}
 use borrow.Author.Tests.{not-true, not-false}

@@ -6,7 +6,6 @@ use mathlib.Core.Bool.{false}
 use Prim.Native.Nat.{_-_}
 use native.Mathlib.Omega.{arith}
 use lib.Dec.{eqb}
-use lib.ListN.{length}
 use Rattle.lists.proofs.Tables.{get-within}
 use Rattle.queries.proofs.settles.Statement.{statement}
 use Rattle.queries.proofs.settles.Tie as tie

@@ -3,107 +3,76 @@ use Rattle.queries.proofs.Skips.{skip-as, skip-none}
 use borrow.Author.Needs.{needs}
 use Rattle.queries.proofs.skip.Statement.{statement}
 use Rattle.queries.proofs.skip.Tie as tie
-use Rattle.queries.proofs.skip.Reads as reads
-use Rattle.queries.proofs.skip.Lts as lts
-use Rattle.queries.proofs.skip_atoms.Reads as skip-atoms-reads
-use Rattle.queries.proofs.skip_justifications.Reads as skip-justifications-reads
-use Rattle.queries.proofs.skip_plans.Reads as skip-plans-reads
-use Rattle.queries.proofs.skip_remainders.Reads as skip-remainders-reads
-use Rattle.queries.proofs.skip_states.Reads as skip-states-reads
-use Rattle.queries.proofs.skip_subgoals.Reads as skip-subgoals-reads
-use Rattle.queries.proofs.skip_wanted.Reads as skip-wanted-reads
 
--- src/lib.rt:553:9
 skip-wanted-requires : tie.Need-skip-wanted-requires
 skip-wanted-requires c κs = search needs
 
--- src/lib.rt:553:9
 returns : tie.Need-returns
 returns c = let a = c .before .before .before .args in c .skip-wanted .ensures (a .a) (a .b)
 
--- src/lib.rt:557:54
 cast-skip-atoms : tie.Need-cast-skip-atoms
 cast-skip-atoms c = search needs
 
--- src/lib.rt:557:9
 skip-atoms-requires : tie.Need-skip-atoms-requires
 skip-atoms-requires c κs = search needs
 
--- src/lib.rt:557:9
 returns-2 : tie.Need-returns-2
 unfolding candidate-at
 returns-2 c = skip-as (c .skip-atoms .ensures) (λ k. rw (c .before .before .if2 .taken))
 
--- src/lib.rt:560:49
 cast-skip-plans : tie.Need-cast-skip-plans
 cast-skip-plans c = search needs
 
--- src/lib.rt:560:9
 skip-plans-requires : tie.Need-skip-plans-requires
 skip-plans-requires c κs = search needs
 
--- src/lib.rt:560:9
 returns-3 : tie.Need-returns-3
 unfolding candidate-at
 returns-3 c = skip-as (c .skip-plans .ensures) (λ k. rw (c .before .before .before .if2 .left, c .before .before .if3 .taken))
 
--- src/lib.rt:563:54
 cast-skip-remainders : tie.Need-cast-skip-remainders
 cast-skip-remainders c = search needs
 
--- src/lib.rt:563:9
 skip-remainders-requires : tie.Need-skip-remainders-requires
 skip-remainders-requires c κs = search needs
 
--- src/lib.rt:563:9
 returns-4 : tie.Need-returns-4
 unfolding candidate-at
 returns-4 c = skip-as (c .skip-remainders .ensures) (λ k. rw (c .before .before .before .before .if2 .left, c .before .before .before .if3 .left, c .before .before .if4 .taken))
 
--- src/lib.rt:566:55
 cast-skip-justifications : tie.Need-cast-skip-justifications
 cast-skip-justifications c = search needs
 
--- src/lib.rt:566:55
 mul-skip-justifications : tie.Need-mul-skip-justifications
 mul-skip-justifications c = search needs
 
--- src/lib.rt:566:9
 skip-justifications-requires : tie.Need-skip-justifications-requires
 skip-justifications-requires c κs = search needs
 
--- src/lib.rt:566:9
 returns-5 : tie.Need-returns-5
 unfolding candidate-at
 returns-5 c = let a = c .before .before .before .before .before .before .before .before .args in skip-as (c .skip-justifications .ensures (a .b)) (λ k. rw (c .before .before .before .before .before .if2 .left, c .before .before .before .before .if3 .left, c .before .before .before .if4 .left, c .before .before .if5 .taken))
 
--- src/lib.rt:569:52
 cast-skip-subgoals : tie.Need-cast-skip-subgoals
 cast-skip-subgoals c = search needs
 
--- src/lib.rt:569:9
 skip-subgoals-requires : tie.Need-skip-subgoals-requires
 skip-subgoals-requires c κs = search needs
 
--- src/lib.rt:569:9
 returns-6 : tie.Need-returns-6
 unfolding candidate-at
 returns-6 c = skip-as (c .skip-subgoals .ensures) (λ k. rw (c .before .before .before .before .before .before .if2 .left, c .before .before .before .before .before .if3 .left, c .before .before .before .before .if4 .left, c .before .before .before .if5 .left, c .before .before .if6 .taken))
 
--- src/lib.rt:572:55
 cast-skip-states : tie.Need-cast-skip-states
 cast-skip-states c = search needs
 
--- src/lib.rt:572:9
 skip-states-requires : tie.Need-skip-states-requires
 skip-states-requires c κs = search needs
 
--- src/lib.rt:572:9
 returns-7 : tie.Need-returns-7
 unfolding candidate-at
 returns-7 c = skip-as (c .skip-states .ensures) (λ k. rw (c .before .before .before .before .before .before .before .if2 .left, c .before .before .before .before .before .before .if3 .left, c .before .before .before .before .before .if4 .left, c .before .before .before .before .if5 .left, c .before .before .before .if6 .left, c .before .before .if7 .taken))
 
--- src/lib.rt:548:1
 returns-8 : tie.Need-returns-8
 returns-8 c = skip-none _ _ _ _ _
 

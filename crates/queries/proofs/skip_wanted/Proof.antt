@@ -4,66 +4,46 @@ use Rattle.queries.proofs.Halves.{atoms-leapt, plans-leapt, justificati
 use borrow.Author.Needs.{needs}
 use Rattle.queries.proofs.skip_wanted.Statement.{statement}
 use Rattle.queries.proofs.skip_wanted.Tie as tie
-use Rattle.queries.proofs.skip_wanted.Reads as reads
-use Rattle.queries.proofs.skip_wanted.Lts as lts
-use Rattle.queries.proofs.leap.Reads as leap-reads
-use Rattle.queries.proofs.leap_four.Reads as leap-four-reads
-use Rattle.state.proofs.find_atom.Reads as find-atom-reads
-use Rattle.state.proofs.find_plan.Reads as find-plan-reads
 
--- src/lib.rt:531:13
 find-atom-requires : tie.Need-find-atom-requires
 find-atom-requires c κs = search needs
 
--- src/lib.rt:532:30
 cast-leap : tie.Need-cast-leap
 cast-leap c = search needs
 
--- src/lib.rt:532:9
 leap-requires : tie.Need-leap-requires
 leap-requires c κs = let a = c .before .before .before .before .args in atom-place (a .s .atoms) (a .words .now) (a .i .number) _ (c .before .find-atom .ensures)
 
--- src/lib.rt:532:9
 returns : tie.Need-returns
 returns c = let a = c .before .before .before .before .before .args in λ u v. atoms-leapt (a .words .now) (a .s) (a .r) (a .i) u v (c .before .before .before .before .before .pre .1) (a .from) _ (c .before .before .before .before .before .pre .0 .atoms-rise) (c .before .before .before .if1 .taken) _ (c .before .before .find-atom .ensures) (c .leap .ensures)
 
--- src/lib.rt:535:9
 returns-2 : tie.Need-returns-2
 returns-2 c = λ u v. skip-none _ _ _ _ _
 
--- src/lib.rt:538:9
 returns-3 : tie.Need-returns-3
 returns-3 c = λ u v. skip-none _ _ _ _ _
 
--- src/lib.rt:540:9
 find-plan-requires : tie.Need-find-plan-requires
 find-plan-requires c κs = search needs
 
--- src/lib.rt:542:35
 cast-leap-four : tie.Need-cast-leap-four
 cast-leap-four c = search needs
 
--- src/lib.rt:542:35
 mul-leap-four : tie.Need-mul-leap-four
 mul-leap-four c = search needs
 
--- src/lib.rt:542:9
 leap-four-requires : tie.Need-leap-four-requires
 leap-four-requires c κs = let a = c .before .before .before .before .before .before .before .args in let h = plan-place (a .s .plans) (a .words .now) (a .i .number) _ (c .before .before .find-plan .ensures) in let p = c .before .before .before .before .before .before .before .pre .0 .plans in (omega arith, omega arith)
 
--- src/lib.rt:542:9
 returns-4 : tie.Need-returns-4
 returns-4 c = let a = c .before .before .before .before .before .before .before .before .args in let h = c .before .before .before .before .before .if2 .left in λ u v. justifications-leapt (a .words .now) (a .s) (a .r) (a .i) u v (c .before .before .before .before .before .before .before .before .pre .1) (a .from) _ (c .before .before .before .before .before .before .before .before .pre .0 .plans-rise) (omega arith) _ (c .before .before .before .find-plan .ensures) (c .before .before .if4 .taken) (c .leap-four .ensures)
 
--- src/lib.rt:544:19
 cast-leap-2 : tie.Need-cast-leap-2
 cast-leap-2 c = search needs
 
--- src/lib.rt:544:5
 leap-requires-2 : tie.Need-leap-requires-2
 leap-requires-2 c κs = let a = c .before .before .before .before .before .before .before .args in plan-place (a .s .plans) (a .words .now) (a .i .number) _ (c .before .before .find-plan .ensures)
 
--- src/lib.rt:525:1
 returns-5 : tie.Need-returns-5
 returns-5 c = let a = c .before .before .before .before .before .before .before .before .args in let h = c .before .before .before .before .before .if2 .left in let g = c .before .before .before .before .if3 .left in λ u v. plans-leapt (a .words .now) (a .s) (a .r) (a .i) u v (c .before .before .before .before .before .before .before .before .pre .1) (a .from) _ (c .before .before .before .before .before .before .before .before .pre .0 .plans-rise) (omega arith) _ (c .before .before .before .find-plan .ensures) (omega arith) (c .before .before .if4 .left) (c .leap2 .ensures)
 

@@ -6,7 +6,7 @@ use mathlib.Core.Bool.{false, false≢true}
 use Prim.Native.Nat.{_-_}
 use native.Mathlib.Omega.{arith}
 use lib.Dec.{eqb}
-use lib.ListN.{length, getD}
+use lib.ListN.{getD}
 use Rattle.lists.proofs.Tables.{get-within}
 use Rattle.model.specs.Configuration.{value-of}
 use Rattle.model.specs.Matching.{meet}

@@ -1,8 +1,8 @@
 -- The same tests in the same order.
 use borrow.Author.Needs.{needs}
 use Rattle.queries.specs.Answers.{count-of}
-use Rattle.queries.proofs.count.Statement.{statement}
-use Rattle.queries.proofs.count.Tie as tie
+use Rattle.queries.proofs.candidates.Statement.{statement}
+use Rattle.queries.proofs.candidates.Tie as tie
 
 cast-result : tie.Need-cast-result
 cast-result c = search needs
@@ -53,8 +53,8 @@ returns-7 : tie.Need-returns-7
 unfolding count-of
 returns-7 c = rw (c .before .before .before .before .before .if1 .left, c .before .before .before .before .if2 .left, c .before .before .before .if3 .left, c .before .before .if4 .left, c .before .if5 .left, c .if6 .left)
 
-pub count-spec : {M : Type 1} → statement M
-count-spec =
+pub candidates-spec : {M : Type 1} → statement M
+candidates-spec =
     tie.close
     (tie.spec
     cast-result
