@@ -2,16 +2,11 @@
 use mathlib.Core.Path.{_≡_, ap, sym, _∙_}
 use mathlib.Core.Bool.{true}
 use mathlib.Core.List.{List, [], _∷_, _++_}
-use mathlib.Core.Logic.{_≢_}
-use Prim.Native.Nat.{ℕ, _+_, _-_, _<_, _≤_}
+use Prim.Native.Nat.{ℕ, _+_, _-_, _≤_}
 use native.Mathlib.Omega.{arith}
-use lib.ListN.{length, take, drop, length-append, length-drop}
-use lib.Seq.{length-take-le}
-use Rattle.text.specs.Reading.{Ends}
+use lib.ListN.{length, drop, length-append, length-drop}
 use Rattle.script.specs.Reading.{spaces-in}
-use Rattle.program.specs.declared.Loaded.{Loaded}
 use Rattle.program.specs.Loading as Loading
-use Rattle.program.specs.Loading.{Answer}
 use Rattle.loading.specs.declared.Started.{Started}
 use Rattle.loading.specs.Starting.{Start, seen, starting}
 use Rattle.loading.proofs.Starts.{few-rows}
@@ -24,10 +19,6 @@ use Rattle.listing.specs.Listing.{Listable}
 use Rattle.listing.proofs.Well.{listable}
 use Rattle.in_place.specs.Given.{admitted}
 use Rattle.in_place.proofs.Outcomes.{given-admitted}
-
--- the end of a line that is looked for in the first n bytes
-pub ends-inside : (l : List ℕ) (n from r : ℕ) → n ≤ length l → Ends (take n l) from r → (from ≤ r) × (r ≤ n)
-ends-inside l n from r h e = (e .low, let k = length-take-le n l h in omega (arith, k, e .high))
 
 -- an accepted load has at most 512 rows
 pub rows-started : (text lent : List ℕ) (c : Configuration.Config) (r : Started) (after : List ℕ) → seen r after ≡ starting text lent c → r .number ≡ 0 → r .rows ≤ 512
@@ -57,11 +48,3 @@ space-follows line end n e o =
     let h = some-space (drop end line) (sym e ∙ o) in
     let l = length-drop end line in
     omega (arith, h, l)
-
--- a line that begins within the first n bytes
-pub begins-inside : (l : List ℕ) (n from : ℕ) → from ≤ n → n ≤ length l → from ≤ length (take n l)
-begins-inside l n from h k = let e = length-take-le n l k in omega (arith, e)
-
--- with more bytes than before fewer can be missing to a line that is too long
-pub fewer-missing : (held filled : ℕ) → held ≤ 4096 → held ≤ filled → filled ≢ held → 4097 - (filled - 0) < 4097 - held
-fewer-missing held filled h k d = omega (arith, h, k, d)

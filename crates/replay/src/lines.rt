@@ -1,9 +1,9 @@
 // A line of the script: what it asks for is done, or the script is left.
 use crate::calls;
-use crate::input::Kind;
 use crate::output;
 use crate::output::Bench;
 use crate::raw;
+use input::Kind;
 use script::Command;
 use script::Found;
 use state::Config;

@@ -20,7 +20,6 @@
 // A refused call prints `refused N: WORDS`, a refused load `refused N line L: WORDS`. A line that is not understood prints
 // `error line L: REASON` and ends the replay.
 mod calls;
-mod input;
 mod lines;
 mod output;
 mod raw;

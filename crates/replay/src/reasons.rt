@@ -226,6 +226,9 @@ fn put_unvalued(out: &mut [u8; 4096], at: usize, unvalued: Unvalued) -> usize {
 
 // Why the load of a text is refused with this number.
 pub fn put_reason(out: &mut [u8; 4096], at: usize, text: &[u8], number: u32) -> usize {
+    if text.len() == 0 {
+        return output::put(out, at, b"the file is empty, or it cannot be opened");
+    }
     let why = explain::explain(text);
     let cause = why.cause;
     let begin = why.begin;

@@ -3,8 +3,8 @@ use mathlib.Core.Path.{_≡_}
 use Prim.Native.Nat.{_-_}
 use lib.ListN.{length}
 use borrow.Author.Needs.{needs}
-use Rattle.replay.proofs.input.slide.Statement.{statement}
-use Rattle.replay.proofs.input.slide.Tie as tie
+use Rattle.input.proofs.slide.Statement.{statement}
+use Rattle.input.proofs.slide.Tie as tie
 
 abbrev Inv-loop : tie.InvT-loop
 Inv-loop buffer₀ from count i₀ buffer i = length buffer ≡ length buffer₀

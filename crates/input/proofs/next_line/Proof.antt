@@ -4,10 +4,10 @@ use Prim.Native.Nat.{_-_, _≤_}
 use native.Mathlib.Omega.{arith}
 use lib.ListN.{length}
 use lib.Seq.{length-take-le}
-use Rattle.replay.proofs.Bounds.{ends-inside, begins-inside, fewer-missing}
+use Rattle.input.proofs.Bounds.{ends-inside, begins-inside, fewer-missing}
 use borrow.Author.Needs.{needs}
-use Rattle.replay.proofs.input.next_line.Statement.{statement}
-use Rattle.replay.proofs.input.next_line.Tie as tie
+use Rattle.input.proofs.next_line.Statement.{statement}
+use Rattle.input.proofs.next_line.Tie as tie
 
 abbrev Inv-loop : tie.InvT-loop
 Inv-loop buffer₀ from to begin₀ held₀ buffer begin held = (begin ≤ held) × (held ≤ length buffer) × (length buffer ≡ length buffer₀)

@@ -1,4 +1,4 @@
-// The script, line by line.
+// Standard input, line by line, in a lent buffer.
 ghost use mathlib.Core.Path.{_≡_};
 ghost use Prim.Native.Nat.{_+_, _-_, _≤_};
 ghost use lib.ListN.{length};
@@ -11,7 +11,7 @@ pub enum Kind {
     Long,
 }
 
-// A line from `from` to `end` of the buffer. The script goes on at `behind`, and the buffer holds it up to `to`.
+// A line from `from` to `end` of the buffer. The input goes on at `behind`, and the buffer holds it up to `to`.
 pub struct Next {
     pub from: usize,
     pub end: usize,
@@ -20,7 +20,7 @@ pub struct Next {
     pub kind: Kind,
 }
 
-// There is no line, and the script is left.
+// There is no line, and the input is left.
 fn none(kind: Kind) -> Next
     ensures { λ r. ⌜ (r .from ≡ 0) × (r .end ≡ 0) × (r .behind ≡ 0) × (r .to ≡ 0) ⌝ }
 {
