@@ -94,7 +94,7 @@ fn same_justifications(words: &[u32], k: usize, l: Ids) -> bool
     requires { ⌜ (length (now words) ≡ 2432) × (k < 64) × (l .count ≤ 4) ⌝ }
     ensures { λ b. ⌜ b ≡ same (plan-at (now (words .entry)) k .justifications) (ids-of l) ⌝ }
 {
-    let n = queries::justification_count(words, k);
+    let n = queries::candidates::justification_count(words, k);
     let ids = l.ids;
     let count = l.count;
     if n != count {

@@ -29,12 +29,12 @@ tried-one : (x : tie.After-candidate-at Inv-loop μ-loop) →
 tried-one x =
     let l = x .before .before in
     let i = l .loop .inv in
-    let n = l .before .before .before .before .before .before .before .before .candidates .ensures in
+    let n = l .before .before .before .before .before .before .before .before .count .ensures in
     let h = x .before .loop-test .taken in
     (omega arith, rw (i .1, i .2))
 
-candidates-requires : tie.Need-candidates-requires Inv-loop μ-loop
-candidates-requires c κs = search needs
+count-requires : tie.Need-count-requires Inv-loop μ-loop
+count-requires c κs = search needs
 
 slice-aggregate-wanted-by : tie.Need-slice-aggregate-wanted-by Inv-loop μ-loop
 slice-aggregate-wanted-by c = search needs
@@ -64,7 +64,7 @@ loop-holds c =
     (p .2, p .3, refl, c .skip .ensures .on, hits-skipped _ _ _ _ _ _ _ _ _ (w .before .before .before .before .wanted-by .ensures) (w .before .before .wanted-by2 .ensures) (w .wanted-by3 .ensures) (c .skip .ensures))
 
 candidate-at-requires : tie.Need-candidate-at-requires Inv-loop μ-loop
-candidate-at-requires c κs = let n = c .before .before .before .before .before .before .before .before .before .candidates .ensures in let h = c .loop-test .taken in (c .before .before .before .before .before .before .before .before .before .before .before .pre .0, omega arith)
+candidate-at-requires c κs = let n = c .before .before .before .before .before .before .before .before .before .count .ensures in let h = c .loop-test .taken in (c .before .before .before .before .before .before .before .before .before .before .before .pre .0, omega arith)
 
 add-c : tie.Need-add-c Inv-loop μ-loop
 add-c c = let h = c .before .loop-test .taken in omega arith
@@ -79,7 +79,7 @@ returns c =
     let l = x .before .before in
     let i = l .loop .inv in
     let h = tried-one x in
-    let n = l .before .before .before .before .before .before .before .before .candidates .ensures in
+    let n = l .before .before .before .before .before .before .before .before .count .ensures in
     let k = x .before .loop-test .taken in
     let on = i .3 in
     let a = l .before .before .before .before .before .before .before .before .before .before .args in (
@@ -123,7 +123,7 @@ loop-again c =
 returns-2 : tie.Need-returns-2 Inv-loop μ-loop
 returns-2 c =
     let i = c .before .loop .inv in
-    let n = c .before .before .before .before .before .before .before .before .before .candidates .ensures in
+    let n = c .before .before .before .before .before .before .before .before .before .count .ensures in
     let h = c .loop-test .left in
     (i .0, (record { is = i .4 ∙ hits-end _ _ _ _ _ (omega arith); further = λ z. absurd (z refl) }, (λ _. i .1, i .2)))
 
@@ -133,7 +133,7 @@ next-fit-spec =
     (tie.spec
     Inv-loop
     μ-loop
-    candidates-requires
+    count-requires
     slice-aggregate-wanted-by
     wanted-by-requires
     slice-aggregate-wanted-by-2
