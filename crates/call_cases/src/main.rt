@@ -1,5 +1,6 @@
 // Calls on configurations, and what each answers: a line `case number made gone`, then of what it leaves `phase waiting atoms plans`
-// and of the first plan, if one is left, `left flags subgoal`.
+// and of the first plan, if one is left, `left flags subgoal`. Then whole plays: a line `case number line calls made gone`, and of what
+// is left `phase cycle atoms plans`.
 use interpreter::Reply;
 use state::Config;
 use state::Scalars;
@@ -180,6 +181,117 @@ fn first(words: [u32; 4096], n: usize) {
     }
 }
 
+fn play(case: u64, text: &[u8], words: &[u32]) {
+    let p = interpreter::play(text, words);
+    let scalars = p.config.scalars;
+    say(case, b" ");
+    say(p.number as u64, b" ");
+    say(p.line as u64, b" ");
+    say(p.calls as u64, b" ");
+    say(p.made as u64, b" ");
+    say(p.gone as u64, b"  ");
+    say(scalars.phase as u64, b" ");
+    say(scalars.cycle as u64, b" ");
+    say(scalars.atoms as u64, b" ");
+    say(scalars.plans as u64, b"\n");
+}
+
+// "the run above", and "then withdraw 1 3 1200: gone 3, none alive".
+fn play_key(text: &[u8]) {
+    play(
+        26,
+        text,
+        &[
+            1,
+            0,
+            4,
+            1,
+            1,
+            3,
+            1200,
+            2,
+            0,
+            0,
+            2,
+            0,
+            0,
+            2,
+            0,
+            0,
+            2,
+            0,
+            0,
+            2,
+            0,
+            0,
+            2,
+            0,
+            0,
+            1,
+            0,
+            4,
+            2,
+            1,
+            3,
+            1200,
+        ],
+    );
+}
+
+// Refused: a step and an answer out of turn, delete 0; a second sense, a word that is no program.
+fn play_refused(text: &[u8]) {
+    play(
+        27,
+        text,
+        &[2, 0, 0, 3, 0, 1, 4, 0, 0, 1, 0, 4, 1, 1, 3, 1200, 4, 0, 1],
+    );
+    play(28, text, &[1, 0, 0, 1, 0, 0, 2, 2, 0, 7]);
+}
+
+// Under no rows 1(4, 4095) stays what it is, and a step ends the cycle; the loaded ceiling withdraws 2(4, 4095), which is not there.
+// A ceiling of its own; one that takes a reading as predicate 0.
+fn play_own(text: &[u8]) {
+    play(
+        29,
+        text,
+        &[1, 1, 4, 1, 1, 4, 4095, 2, 1, 0, 1, 0, 4, 2, 1, 4, 4095],
+    );
+    play(30, text, &[1, 9, 0, 0, 0, 0, 40, 9, 1, 4104, 12]);
+    play(31, text, &[1, 9, 0, 0, 0, 0, 40, 9, 1, 4104, 9]);
+}
+
+// The words end in the middle of the readings, of the program, of the header; a kind that is none.
+fn play_ended(text: &[u8]) {
+    play(32, text, &[1, 0, 4, 1, 1, 3, 1200, 1, 0, 8, 2, 1, 3, 1200]);
+    play(33, text, &[1, 0, 0, 2, 9, 0, 1, 1, 1]);
+    play(34, text, &[1, 0, 0, 2, 0]);
+    play(35, text, &[4, 0, 0, 5, 0, 0, 1, 0, 0]);
+}
+
+// A refused load; an initial atom, deleted.
+fn play_loads() {
+    play(
+        36,
+        b"set rule part op i p a b\n0 0 0 40 0 1 4095\n",
+        &[1, 0, 0],
+    );
+    play(
+        37,
+        b"set rule part op i p a b\n0 0 0 41 0 7 1 2\n",
+        &[4, 0, 1],
+    );
+}
+
+fn plays() {
+    let key =
+        b"set rule part op i p a b\n0 0 0 40 0 1 4095 2\n1 1 1 1 -1 1 -2 -3\n1 1 3 36 -9 3 -2 -3\n2 1 2 3 -1 0 -9 -9\n2 1 2 12 -1 0 2 0\n2 1 3 23 -1 0 2 0\n";
+    play_key(key);
+    play_refused(key);
+    play_own(key);
+    play_ended(key);
+    play_loads();
+}
+
 fn main() {
     let mut rows = [0u32; 4096];
     let r = loading::load(
@@ -188,4 +300,5 @@ fn main() {
         Config::fresh(),
     );
     first(rows, r.rows as usize * 8);
+    plays();
 }

@@ -1,2 +1,2 @@
 pub mod Tests
-pub mod Agree
+pub mod Complete

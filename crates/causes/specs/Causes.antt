@@ -129,7 +129,6 @@ Breaches s t r breach.NotNew = (r .op ≡ 21) × (r .i ≢ 0) × (new-variable (
 Breaches s t r (breach.NoConstant column) = (eqb column 7 || eqb column 8) && (eqb (r .op) 41 && not (constant? (operand r column))) ≡ true
 Breaches s t r breach.NoThreshold = eqb (r .op) 40 && not (constant-within 1 65535 (r .a)) ≡ true
 Breaches s t r breach.NoCeiling = eqb (r .op) 40 && not (constant-within 1 255 (r .b)) ≡ true
-Breaches s t r breach.Other = Unit {0}
 
 -- "Each other body operand that is used": columns a and b, and i but for 21, whose i takes a value
 abbrev pub needs-value : ℕ → ℕ → Bool

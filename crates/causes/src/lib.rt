@@ -2,11 +2,11 @@
 use model::Row;
 use model::Scan;
 ghost use mathlib.Core.Path.{_≡_};
-ghost use mathlib.Core.Bool.{true};
+ghost use mathlib.Core.Bool.{true, false};
 ghost use Prim.Native.Nat.{_≤_};
-ghost use Rattle.model.specs.Load.{too-many, lacking, valueless};
+ghost use Rattle.model.specs.Load.{too-many, lacking, against-kind, breaks, valueless};
 ghost use Rattle.rows.specs.Scanning.{Small};
-ghost use Rattle.causes.specs.Tables.{RulesAgree, SetZeroAgrees};
+ghost use Rattle.causes.specs.Checking.{InSetZero, Checks, Ordered, Stands, Unused, Given, Used, New, Constants, misfits};
 ghost use Rattle.causes.specs.Causes.{Exceeds, Lacks, Breaches, LacksValue, place-of, may-stand, must-be-predicate, must-be-flag, must-be-zero, must-be-given, names-atom, names-instance};
 
 // 5: the limit that is exceeded.
@@ -44,7 +44,12 @@ pub enum Breach {
     NoConstant(u32),
     NoThreshold,
     NoCeiling,
-    Other,
+}
+
+// What a part of the tests says of a row.
+enum Checked {
+    Right,
+    Wrong(Breach),
 }
 
 // 4: the variable, 1 to 8, and the column that it stands in.
@@ -86,57 +91,58 @@ pub fn lack_of(s: Scan) -> Lack
 }
 
 // 3: "both numbered from 1 without gaps, rows by set, rule, part"
-fn order(s: Scan, t: Scan, r: Row) -> Breach
+fn order(s: Scan, t: Scan, r: Row) -> Checked
     requires { ⌜ Small s ⌝ }
-    ensures { λ c. ⌜ Breaches s t r c ⌝ }
+    requires { ⌜ InSetZero s ⌝ }
+    ensures { λ c. ⌜ Checks s t r (Ordered s r) c ⌝ }
 {
     if r.set != s.set {
         if r.set != s.set + 1 {
-            return Breach::SetOrder {
+            return Checked::Wrong(Breach::SetOrder {
                 last: s.set,
                 set: r.set,
-            };
+            });
         }
         if r.rule != 1 {
-            return Breach::FirstRule {
+            return Checked::Wrong(Breach::FirstRule {
                 set: r.set,
                 rule: r.rule,
-            };
+            });
         }
-        return Breach::Other;
+        return Checked::Right;
     }
     if r.set < 1 {
-        return Breach::Other;
+        return Checked::Right;
     }
     if r.rule == s.rule {
         if r.part < s.part {
-            return Breach::PartOrder {
+            return Checked::Wrong(Breach::PartOrder {
                 last: s.part,
                 part: r.part,
-            };
+            });
         }
-        return Breach::Other;
+        return Checked::Right;
     }
     if r.rule != s.rule + 1 {
-        return Breach::RuleOrder {
+        return Checked::Wrong(Breach::RuleOrder {
             last: s.rule,
             rule: r.rule,
-        };
+        });
     }
-    Breach::Other
+    Checked::Right
 }
 
 // 3: "A set holds one kind, that of its first rule; a row against it is 3."
-fn kind(s: Scan, t: Scan, r: Row) -> Breach
-    ensures { λ c. ⌜ Breaches s t r c ⌝ }
+fn kind(s: Scan, t: Scan, r: Row) -> Checked
+    ensures { λ c. ⌜ Checks s t r (against-kind s r ≡ false) c ⌝ }
 {
     let against = (r.set == s.set)
         & !((r.set == s.set) & (r.rule == s.rule))
         & (s.object & !(r.part == 1) | !s.object & (r.part == 1));
     if against {
-        return Breach::Kind(s.object);
+        return Checked::Wrong(Breach::Kind(s.object));
     }
-    Breach::Other
+    Checked::Right
 }
 
 // Where a row stands: in set 0, among reasons, in the context and the body of an object rule, in those of a meta rule.
@@ -173,42 +179,26 @@ fn may_stand(place: u32, op: u32) -> bool
 }
 
 // 3: the row's set, part and op.
-fn standing(s: Scan, t: Scan, r: Row) -> Breach
-    requires { ⌜ r .p ≤ 255 ⌝ }
-    ensures { λ c. ⌜ Breaches s t r c ⌝ }
+fn standing(s: Scan, t: Scan, r: Row) -> Checked
+    ensures { λ c. ⌜ Checks s t r (Stands t r) c ⌝ }
 {
     let has_rule = (r.set == 0) & !(r.rule == 0);
     if has_rule {
-        return Breach::SetZero(2);
+        return Checked::Wrong(Breach::SetZero(2));
     }
     let has_part = (r.set == 0) & !(r.part == 0);
     if has_part {
-        return Breach::SetZero(3);
+        return Checked::Wrong(Breach::SetZero(3));
     }
     let no_part = (1 <= r.set) & !((1 <= r.part) & (r.part <= 3));
     if no_part {
-        return Breach::NoPart(r.part);
+        return Checked::Wrong(Breach::NoPart(r.part));
     }
     let place = place_of(t, r);
     if !may_stand(place, r.op) {
-        return Breach::Op { op: r.op, place };
+        return Checked::Wrong(Breach::Op { op: r.op, place });
     }
-    Breach::Other
-}
-
-fn second_ceiling(s: Scan, t: Scan, r: Row) -> Breach
-    requires { ⌜ r .p ≤ 255 ⌝ }
-    ensures { λ c. ⌜ Breaches s t r c ⌝ }
-{
-    let table = s.ceilings;
-    let at = r.p as usize;
-    if r.op != 40 {
-        return Breach::Other;
-    }
-    if table[at] != 0 {
-        return Breach::SecondCeiling(r.p);
-    }
-    Breach::Other
+    Checked::Right
 }
 
 // "p is 1 to 255 in ops 1, 2, 21, 31 to 34, 36 and 41, and in 40."
@@ -264,165 +254,169 @@ fn must_be_given(op: u32, column: u32, x: u32) -> bool
 }
 
 // 3: the first column that must be 0 and is not.
-fn not_zero(s: Scan, t: Scan, r: Row) -> Breach
+fn not_zero(s: Scan, t: Scan, r: Row) -> Checked
     requires { ⌜ r .p ≤ 255 ⌝ }
-    ensures { λ c. ⌜ Breaches s t r c ⌝ }
+    ensures { λ c. ⌜ Checks s t r (Unused r) c ⌝ }
 {
     if must_be_zero(r.op, 5, r.i) {
-        return Breach::NotZero {
+        return Checked::Wrong(Breach::NotZero {
             op: r.op,
             column: 5,
-        };
+        });
     }
     if must_be_zero(r.op, 6, r.p + 9) {
-        return Breach::NotZero {
+        return Checked::Wrong(Breach::NotZero {
             op: r.op,
             column: 6,
-        };
+        });
     }
     if must_be_zero(r.op, 7, r.a) {
-        return Breach::NotZero {
+        return Checked::Wrong(Breach::NotZero {
             op: r.op,
             column: 7,
-        };
+        });
     }
     if must_be_zero(r.op, 8, r.b) {
-        return Breach::NotZero {
+        return Checked::Wrong(Breach::NotZero {
             op: r.op,
             column: 8,
-        };
+        });
     }
-    Breach::Other
+    Checked::Right
 }
 
 // 3: the first column that must be a constant or a variable and is any.
-fn no_value(s: Scan, t: Scan, r: Row) -> Breach
-    ensures { λ c. ⌜ Breaches s t r c ⌝ }
+fn no_value(s: Scan, t: Scan, r: Row) -> Checked
+    ensures { λ c. ⌜ Checks s t r (Given r) c ⌝ }
 {
     if must_be_given(r.op, 5, r.i) {
-        return Breach::NoValue {
+        return Checked::Wrong(Breach::NoValue {
             op: r.op,
             column: 5,
-        };
+        });
     }
     if must_be_given(r.op, 7, r.a) {
-        return Breach::NoValue {
+        return Checked::Wrong(Breach::NoValue {
             op: r.op,
             column: 7,
-        };
+        });
     }
     if must_be_given(r.op, 8, r.b) {
-        return Breach::NoValue {
+        return Checked::Wrong(Breach::NoValue {
             op: r.op,
             column: 8,
-        };
+        });
     }
-    Breach::Other
+    Checked::Right
 }
 
 // 3: a predicate, a flag, or an i that must be any.
-fn used(s: Scan, t: Scan, r: Row) -> Breach
-    ensures { λ c. ⌜ Breaches s t r c ⌝ }
+fn used(s: Scan, t: Scan, r: Row) -> Checked
+    ensures { λ c. ⌜ Checks s t r (Used r) c ⌝ }
 {
     if must_be_predicate(r.op, r.p) {
-        return Breach::NoPredicate(r.op);
+        return Checked::Wrong(Breach::NoPredicate(r.op));
     }
     if must_be_flag(r.op, r.a) {
-        return Breach::NoFlag(r.op);
+        return Checked::Wrong(Breach::NoFlag(r.op));
     }
     let made = ((r.op == 34) | (r.op == 36)) & !(r.i == 0);
     if made {
-        return Breach::NotAny(r.op);
+        return Checked::Wrong(Breach::NotAny(r.op));
     }
-    Breach::Other
+    Checked::Right
 }
 
 // 3: "its id going to variable i, which has no value yet, or i = -9"
-fn not_new(s: Scan, t: Scan, r: Row) -> Breach
-    ensures { λ c. ⌜ Breaches s t r c ⌝ }
+fn not_new(s: Scan, t: Scan, r: Row) -> Checked
+    ensures { λ c. ⌜ Checks s t r (New t r) c ⌝ }
 {
     let valued = t.valued;
     if r.op != 21 {
-        return Breach::Other;
+        return Checked::Right;
     }
     if r.i == 0 {
-        return Breach::Other;
+        return Checked::Right;
     }
     if rows::new_variable(valued, r.i) {
-        return Breach::Other;
+        return Checked::Right;
     }
-    Breach::NotNew
+    Checked::Wrong(Breach::NotNew)
 }
 
 // 3: the constants of set 0.
-fn constants(s: Scan, t: Scan, r: Row) -> Breach
-    ensures { λ c. ⌜ Breaches s t r c ⌝ }
+fn constants(s: Scan, t: Scan, r: Row) -> Checked
+    ensures { λ c. ⌜ Checks s t r (Constants r) c ⌝ }
 {
     let first = (r.op == 41) & !(9 <= r.a);
     if first {
-        return Breach::NoConstant(7);
+        return Checked::Wrong(Breach::NoConstant(7));
     }
     let second = (r.op == 41) & !(9 <= r.b);
     if second {
-        return Breach::NoConstant(8);
+        return Checked::Wrong(Breach::NoConstant(8));
     }
     let threshold = (r.op == 40) & !((10 <= r.a) & (r.a <= 65544));
     if threshold {
-        return Breach::NoThreshold;
+        return Checked::Wrong(Breach::NoThreshold);
     }
     let ceiling = (r.op == 40) & !((10 <= r.b) & (r.b <= 264));
     if ceiling {
-        return Breach::NoCeiling;
+        return Checked::Wrong(Breach::NoCeiling);
     }
-    Breach::Other
+    Checked::Right
 }
 
-// 3: the columns i, p, a and b.
+// 3: the columns i, p, a and b. Where all of them are right the row is a second ceiling.
 fn columns(s: Scan, t: Scan, r: Row) -> Breach
     requires { ⌜ r .p ≤ 255 ⌝ }
+    requires { ⌜ Stands t r ⌝ }
+    requires { ⌜ misfits s t r ≡ true ⌝ }
     ensures { λ c. ⌜ Breaches s t r c ⌝ }
 {
     let zero = not_zero(s, t, r);
-    let Breach::Other = zero else {
-        return zero;
-    };
+    if let Checked::Wrong(breach) = zero {
+        return breach;
+    }
     let value = no_value(s, t, r);
-    let Breach::Other = value else {
-        return value;
-    };
+    if let Checked::Wrong(breach) = value {
+        return breach;
+    }
     let of_use = used(s, t, r);
-    let Breach::Other = of_use else {
-        return of_use;
-    };
+    if let Checked::Wrong(breach) = of_use {
+        return breach;
+    }
     let new = not_new(s, t, r);
-    let Breach::Other = new else {
-        return new;
-    };
+    if let Checked::Wrong(breach) = new {
+        return breach;
+    }
     let constant = constants(s, t, r);
-    let Breach::Other = constant else {
-        return constant;
-    };
-    second_ceiling(s, t, r)
+    if let Checked::Wrong(breach) = constant {
+        return breach;
+    }
+    Breach::SecondCeiling(r.p)
 }
 
 // 3: "row breaks a rule of its op, part or order": s is the scan before the row, t as the row finds it.
 pub fn breach_of(s: Scan, t: Scan, r: Row) -> Breach
     requires { ⌜ Small s ⌝ }
+    requires { ⌜ InSetZero s ⌝ }
     requires { ⌜ r .p ≤ 255 ⌝ }
+    requires { ⌜ breaks s t r ≡ true ⌝ }
     ensures { λ c. ⌜ Breaches s t r c ⌝ }
 {
     let ordered = order(s, t, r);
-    let Breach::Other = ordered else {
-        return ordered;
-    };
+    if let Checked::Wrong(breach) = ordered {
+        return breach;
+    }
     let kept = kind(s, t, r);
-    let Breach::Other = kept else {
-        return kept;
-    };
+    if let Checked::Wrong(breach) = kept {
+        return breach;
+    }
     let stands = standing(s, t, r);
-    let Breach::Other = stands else {
-        return stands;
-    };
+    if let Checked::Wrong(breach) = stands {
+        return breach;
+    }
     columns(s, t, r)
 }
 
@@ -448,12 +442,4 @@ pub fn unvalued_of(t: Scan, r: Row) -> Unvalued
         column: 5,
         variable: 9 - r.i,
     }
-}
-
-// Does nothing: it promises that what the tables call wrong is what the load's tests refuse, on a row of every kind.
-pub fn tables_agree(x: u32) -> u32
-    ensures rules { λ r. ⌜ RulesAgree ⌝ }
-    ensures initial { λ r. ⌜ SetZeroAgrees ⌝ }
-{
-    x
 }

@@ -9,7 +9,7 @@ ghost use Rattle.model.specs.Claims.{to-sense, to-step, to-answer, to-delete, r
 ghost use Rattle.model.specs.Run.{run as run-of-steps};
 ghost use Rattle.loading.specs.Starting.{seen, starting};
 ghost use Rattle.in_place.specs.Given.{given-rows, readings-of};
-ghost use Rattle.interpreter.specs.Calls.{conf, reported, step-reported, run-reported, run-refusal};
+ghost use Rattle.interpreter.specs.Calls.{conf, reported, step-reported, Obeys, run-reported, run-refusal};
 ghost use Rattle.controller.specs.Answers.{with-config, step-with-config, run-with-config, load-with-config};
 
 // A call's answer: the refusal's number or 0, made and gone.
@@ -75,6 +75,7 @@ pub fn sense(program: &[u32], config: &mut Config, rows: &[u32]) -> CallAnswer
 pub fn step(program: &[u32], config: &mut Config) -> StepAnswer
     ensures { λ r. ⌜ step-reported (step-with-config r (now (config .exit))) ≡ reply (to-step (given-rows (now (program .entry)))) (conf (now (config .entry))) ⌝ }
     ensures untouched { λ r. ⌜ (r .number ≢ 0 → now (config .exit) ≡ now (config .entry)) ⌝ }
+    ensures obeys { λ r. ⌜ Obeys (given-rows (now (program .entry))) (conf (now (config .entry))) (step-with-config r (now (config .exit))) ⌝ }
 {
     let r = interpreter::step(program, *config);
     *config = r.config;

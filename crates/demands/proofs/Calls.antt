@@ -112,7 +112,6 @@ keeps-well-formed = record {
   calls-keep = λ k c L e.
       let h = after-of (Ends (program-of k) c) (call-ends k c) e in
       and2 (h .lawful-program) (shaped-formed (program-of k) (L .config) (faithful-sound c L (h .ends .faithful) (h .sound)) (h .ends .shaped));
-  refused-leaves = λ k c n e. ap (answer-of c) e;
   made-rises = next-rises;
 }
 

@@ -1,68 +1,45 @@
--- Demand 2: in phases 1 to k a rule fires exactly when it is the first of its set with a match.
+-- Demand 2: in phases 1 to k a rule fires exactly when it is the first of its set with a match, and each call does what it says.
 use mathlib.Core.Path.{_≡_, refl, sym, ap, _∙_, subst}
-use mathlib.Core.Bool.{Bool, true, false}
+use mathlib.Core.Bool.{Bool, true, false, not, and-eq-true-iff}
 use mathlib.Core.Logic.{_⊎_, inl, inr, ⊎-elim, _≢_}
-use mathlib.Core.List.{List, [], _∷_, _++_, map}
+use mathlib.Core.List.{List, [], _∷_}
 use Prim.Native.Nat.{ℕ, _+_, _≤_, _<_}
 use native.Mathlib.Omega.{arith}
-use lib.Dec.{eqb, leb}
-use borrow.Author.Tests.{leb-true, leb-false}
-use Rattle.lists.specs.Lists.{In, first, later, Pairs, if_then_else_, keep, first-of, bind, highest}
-use Rattle.lists.proofs.Lists.{test, in-nil, in-cons}
-use Rattle.lists.proofs.Tests.{count-up-rises}
+use lib.Dec.{eqb, leb, ltb}
+use lib.ListN.{length}
+use borrow.Author.Tests.{eqb-true, eqb-false, leb-true, leb-false, ltb-false, not-false}
+use Rattle.lists.specs.Lists.{if_then_else_, keep, every}
+use Rattle.lists.proofs.Lists.{test}
 use Rattle.model.specs.declared.Row.{Row}
-use Rattle.model.specs.Program.{sets, rules-of, is-object, body}
-use Rattle.model.specs.Configuration.{Plan, Config, remainder, atom-alive}
-use Rattle.model.specs.Matching.{Found, rule-matches, Firing, firing}
-use Rattle.model.specs.Meaning.{HasMatch, FirstWithMatch}
+use Rattle.model.specs.Program.{sets, is-object, body}
+use Rattle.model.specs.Configuration.{Plan, Config, remainder, atom-alive, with-waiting}
+use Rattle.model.specs.Graph.{Sound}
+use Rattle.model.specs.Deletion.{graph, Deleted}
+use Rattle.model.specs.Render.{well-formed}
+use Rattle.model.specs.WellFormed.{given-well, config-formed}
+use Rattle.model.specs.Matching.{Firing, firing}
+use Rattle.model.specs.Meaning.{FirstMatch, FirstWithMatch}
 use Rattle.model.specs.Log.{nothing, an-atom, a-plan, Did, fired, moved-on, executed, waits, cycle-ended, called, Log, begin, report, accepted}
-use Rattle.model.specs.Calls.{Reading, room-for-plan, make-atom, withdraw-if, withdraw, sense-row, sense-rows, sense, fire-object, fire, fire-first, end-cycle, pass-over, execute-plan, execute, step, answer, delete, is-due}
-use Rattle.model.specs.Claims.{Fires, NoMatch, StepObeys, DemandTwo}
+use Rattle.model.specs.Calls.{Reading, in-range, room-for-plan, make-atom, withdraw-if, withdraw, sense-row, sense-rows, sense, fire-object, fire, fire-first, end-cycle, pass-over, execute-plan, execute, step, answered, answer, delete, is-due, set-stepped, set-failed, remove-step}
+use Rattle.model.specs.Effects.{Turned, Senses, Fired, Answered, StepDone, StepFailed}
+use Rattle.model.specs.Claims.{Fires, NoMatch, StepObeys, SenseObeys, DemandTwo}
 use Rattle.graph_laws.specs.Faithful.{After}
 use Rattle.graph_laws.proofs.After.{after-then, after-unless, after-if, after-done, after-of}
-use Rattle.search_laws.proofs.Exact.{match-in, in-match}
+use Rattle.graph_laws.proofs.Deletion.{deleted}
+use Rattle.program_laws.proofs.Tests.{or-neither-right}
+use Rattle.program_laws.specs.Lawful.{Lawful}
+use Rattle.program_laws.proofs.Lawful.{lawful}
 use Rattle.demands.proofs.Outcomes.{passed}
+use Rattle.demands.proofs.Shape.{Shaped, formed-shaped}
 use Rattle.demands.proofs.Actions.{after-act, after-actions}
 use Rattle.demands.proofs.Steps.{after-room, after-take-step}
-
--- which rule fires
-module _ {A B : Type 0} (answers : ℕ → List A) (made : ℕ → A → B) where
-  -- the first answer, and whose it is
-  data FirstAnswer (ns : List ℕ) (l : List B) : Type 0 where
-    none : l ≡ [] → ((n : ℕ) → In n ns → answers n ≡ []) → FirstAnswer ns l
-    one : (n : ℕ) (x : A) (rest : List A) → l ≡ made n x ∷ [] → In n ns → answers n ≡ x ∷ rest → ((m : ℕ) → In m ns → m < n → answers m ≡ []) → FirstAnswer ns l
-
-  first-answer : (ns : List ℕ) → Pairs (λ (x y : ℕ). x < y) ns → FirstAnswer ns (first-of (bind ns (λ n. map (made n) (answers n))))
-  first-answer [] o = none refl (λ n i. in-nil i)
-  first-answer (n ∷ ns) o = at (answers n) refl (first-answer ns (o .1))
-    where
-      at : (l : List A) → answers n ≡ l → FirstAnswer ns (first-of (bind ns (λ m. map (made m) (answers m)))) → FirstAnswer (n ∷ ns) (first-of (map (made n) (answers n) ++ bind ns (λ m. map (made m) (answers m))))
-      at (x ∷ l) e more = rw e (one n x l refl (first refl) e (λ m i h. ⊎-elim (λ q. absurd (omega arith)) (λ q. let g = o .0 m q in absurd (omega arith)) (in-cons i)))
-      at [] e (none z h) = rw e (none z (λ m i. ⊎-elim (λ q. ap answers q ∙ e) (λ q. h m q) (in-cons i)))
-      at [] e (one m x rest z i q h) = rw e (one m x rest z (later i) q (λ k j g. ⊎-elim (λ w. ap answers w ∙ e) (λ w. h k w g) (in-cons j)))
-
-module _ (program : List Row) (c : Config) (s : ℕ) where
-  no-match : (n : ℕ) → rule-matches program c s n ≡ [] → ¬ HasMatch program c s n
-  no-match n e h = in-nil (subst (In (h .1)) e (match-in program c s n (h .0) (h .1) (h .2)))
-
-  has-match : (n : ℕ) (f : Found) (rest : List Found) → rule-matches program c s n ≡ f ∷ rest → HasMatch program c s n
-  has-match n f rest e = let m = in-match program c s n f (subst (In f) (sym e) (first refl)) in (m .0, f, m .1)
-
-  rule-firing : ℕ → Found → Firing
-  rule-firing n f = record { rule = n; match = f }
-
-  -- the rule that fires is the first with a match, and none fires where no rule has one
-  data Chosen : List Firing → Type 0 where
-    none-chosen : NoMatch program c s → Chosen []
-    chosen : (f : Firing) → FirstWithMatch program c s (f .rule) → Chosen (f ∷ [])
-
-  choice : Chosen (firing program c s)
-  unfolding firing rules-of rule-firing
-  choice = at (first-answer (rule-matches program c s) rule-firing (rules-of program s) (count-up-rises 1 (highest (map (λ (r : Row). r .rule) (keep (λ (r : Row). eqb (r .set) s) program)))))
-    where
-      at : FirstAnswer (rule-matches program c s) rule-firing (rules-of program s) (firing program c s) → Chosen (firing program c s)
-      at (none e h) = rw e (none-chosen (λ n i. no-match n (h n i)))
-      at (one n x rest e i q h) = rw e (chosen (rule-firing n x) (record { in-set = i; has = has-match n x rest q; none-before = λ m j g. no-match m (h m j g) }))
+use Rattle.demands.proofs.Good.{good-begin}
+use Rattle.demands.proofs.Told.{told-done, told-then, told-after, told-accepted}
+use Rattle.demands.proofs.Effects.{phase-turned, waiting-turned, step-done, step-failed}
+use Rattle.demands.proofs.Choice.{FiresWith, Chosen, none-chosen, chosen, choice}
+use Rattle.demands.proofs.SenseEffects.{RowBarred, rows-told}
+use Rattle.demands.proofs.FireEffects.{FireBarred, fire-told}
+use Rattle.demands.proofs.ExecEffects.{ExecBarred, exec-told}
 
 -- a rule that fires says so, and leaves the phase as it was
 abbrev FiredIn : ℕ → ℕ → ℕ → Log → Type 0
@@ -123,75 +100,139 @@ called-rows program (r ∷ rs) L e = after-then Called Called (sense-row program
     (after-if Called (eqb (r .sign) 1) _ _ (λ h. after-room Called L _ (λ i j. after-done Called _ e)) (λ h. after-done Called _ (called-withdraw _ L e)))
     (λ M g. called-rows program rs M g)
 
+-- what the first test of a call says: program and configuration are well formed
+pub record Given (program : List Row) (c : Config) : Type 0 where
+  pub lawful-rows : Lawful program
+  pub sound : Sound (graph c)
+  pub shaped : Shaped program c
+
+pub given : (program : List Row) (c : Config) → given-well program c ≡ true → Given program c
+unfolding given-well
+given program c e =
+    let a = and-eq-true-iff (well-formed program) (config-formed program c) .0 e in
+    let b = formed-shaped program c (a .1) in
+    record { lawful-rows = lawful program (a .0); sound = b .0; shaped = b .1 }
+
 -- the claim of steps
-module _ (program : List Row) (c : Config) (L : Log) where
+module _ (program : List Row) (c : Config) (L : Log) (w : Given program c) (idle : c .waiting ≡ 0) where
   -- phases 1 to k
   in-set : fire-first program c (firing program c (c .phase)) ≡ accepted L → c .phase ≤ sets program → StepObeys program c L
   unfolding fire-first
-  in-set e h = at (firing program c (c .phase)) (choice program c (c .phase)) e
+  in-set e h = at (firing program c (c .phase)) (choice program c (c .phase) (w .sound)) e
     where
       here : (s n : ℕ) → (s ≡ c .phase) × FirstWithMatch program c s n → FirstWithMatch program c (c .phase) n
       here s n x = subst (λ (t : ℕ). FirstWithMatch program c t n) (x .0) (x .1)
 
       -- no rule has a match
-      left : NoMatch program c (c .phase) → (L .did ≡ moved-on) × (L .config .phase ≡ c .phase + 1) → StepObeys program c L
+      left : NoMatch program c (c .phase) → (L .did ≡ moved-on) × Turned (c .phase + 1) (c .cycle) (c .waiting) c (L .config) → StepObeys program c L
       left nm x = record {
-        fires-first = λ s n g. (λ f. differ (sym (x .0) ∙ f .1) (omega arith), λ w. let v = here s n w in absurd (nm n (v .in-set) (v .has)));
-        leaves-set = λ g. (λ z. nm, λ z. x .1);
+        fires-first = λ s n g. (λ f. differ (sym (x .0) ∙ f .1) (omega arith), λ v. let u = here s n v in absurd (nm n (u .in-set) (u .has)));
+        fires-rightly = λ s n g f. differ (sym (x .0) ∙ f .1) (omega arith);
+        leaves-set = λ g. (λ z. nm, λ z. x .1 .new-phase);
         moves-on = λ g. (λ z. nm, λ z. x .0);
+        moves-alone = λ g d. x .1;
         exec-fires-none = λ g. absurd (omega arith);
+        executes = λ g. absurd (omega arith);
       }
 
-      -- rule r is the first with one
-      went : (r : ℕ) → FirstWithMatch program c (c .phase) r → FiredIn (c .phase) (c .phase) r L → StepObeys program c L
-      went r w x = record {
+      -- f is the first with one
+      went : (f : Firing) → FiresWith program c (c .phase) f → Fired program (c .phase) (f .rule) (f .match) c (L .config) (L .did) → FiredIn (c .phase) (c .phase) (f .rule) L → StepObeys program c L
+      went f v did x = record {
         fires-first = λ s n g. (
-          λ f. let d : fired (c .phase) r (x .0 .0) ≡ fired s n (f .0) = sym (x .0 .1) ∙ f .1 in
-              let p : c .phase ≡ s = cc d in
-              let q : r ≡ n = cc d in
-              (sym p, subst (λ (t : ℕ). FirstWithMatch program c t n) p (subst (FirstWithMatch program c (c .phase)) q w)),
-          λ v. let q = only (here s n v) in (x .0 .0, x .0 .1 ∙ ap (λ (t : ℕ). fired t r (x .0 .0)) (sym (v .0)) ∙ ap (λ (t : ℕ). fired s t (x .0 .0)) (sym q)),
+          λ k. let q = same s n k in (sym (q .0), subst (λ (t : ℕ). FirstWithMatch program c t n) (q .0) (subst (FirstWithMatch program c (c .phase)) (q .1) (v .first-rule))),
+          λ u. let q = only (here s n u) in (x .0 .0, x .0 .1 ∙ ap (λ (t : ℕ). fired t (f .rule) (x .0 .0)) (sym (u .0)) ∙ ap (λ (t : ℕ). fired s t (x .0 .0)) (sym q)),
         );
-        leaves-set = λ g. (λ z. absurd (omega (arith, x .1)), λ nm. absurd (nm r (w .in-set) (w .has)));
-        moves-on = λ g. (λ z. differ (sym z ∙ x .0 .1) (omega arith), λ nm. absurd (nm r (w .in-set) (w .has)));
+        fires-rightly = λ s n g k. let q = same s n k in (
+          f .match,
+          subst (λ (t : ℕ). FirstMatch program c t n (f .match)) (q .0) (subst (λ (m : ℕ). FirstMatch program c (c .phase) m (f .match)) (q .1) (v .first-match)),
+          subst (λ (t : ℕ). Fired program t n (f .match) c (L .config) (L .did)) (q .0) (subst (λ (m : ℕ). Fired program (c .phase) m (f .match) c (L .config) (L .did)) (q .1) did),
+        );
+        leaves-set = λ g. (λ z. absurd (omega (arith, x .1)), λ nm. absurd (nm (f .rule) (v .first-rule .in-set) (v .first-rule .has)));
+        moves-on = λ g. (λ z. differ (sym z ∙ x .0 .1) (omega arith), λ nm. absurd (nm (f .rule) (v .first-rule .in-set) (v .first-rule .has)));
+        moves-alone = λ g d. differ (sym d ∙ x .0 .1) (omega arith);
         exec-fires-none = λ g. absurd (omega arith);
+        executes = λ g. absurd (omega arith);
       }
         where
-          only : {n : ℕ} → FirstWithMatch program c (c .phase) n → n ≡ r
-          only {n} v = ⊎-elim (λ e. absurd (w .none-before n (v .in-set) e (v .has))) (λ e. ⊎-elim (λ f. absurd (v .none-before r (w .in-set) f (w .has))) (λ f. f) e) (order n r)
+          same : (s n : ℕ) → Fires L s n → (c .phase ≡ s) × (f .rule ≡ n)
+          same s n k =
+              let d : fired (c .phase) (f .rule) (x .0 .0) ≡ fired s n (k .0) = sym (x .0 .1) ∙ k .1 in
+              (cc d, cc d)
+
+          -- two rules that are each the first with a match are one
+          only : {n : ℕ} → FirstWithMatch program c (c .phase) n → n ≡ f .rule
+          only {n} u = ⊎-elim (λ g. absurd (v .first-rule .none-before n (u .in-set) g (u .has))) (λ g. ⊎-elim (λ k. absurd (u .none-before (f .rule) (v .first-rule .in-set) k (v .first-rule .has))) (λ k. k) g) (order n (f .rule))
             where
               order : (n m : ℕ) → (n < m) ⊎ ((m < n) ⊎ (n ≡ m))
               order n m = ⊎-elim (λ p. ⊎-elim (λ q. let a = leb-true m n p in let b = leb-true n m q in inr (inr (omega arith))) (λ q. inr (inl (leb-false n m q))) (test (leb n m))) (λ p. inl (leb-false m n p)) (test (leb m n))
 
       at : (fs : List Firing) → Chosen program c (c .phase) fs → fire-first program c fs ≡ accepted L → StepObeys program c L
-      at fs (none-chosen nm) z = left nm (after-of (λ (M : Log). (M .did ≡ moved-on) × (M .config .phase ≡ c .phase + 1)) (after-done _ _ (refl, refl)) z)
-      at fs (chosen f w) z = went (f .rule) w (after-of (FiredIn (c .phase) (c .phase) (f .rule)) (fired-after program (c .phase) (c .phase) f (begin c) refl) z)
+      at fs (none-chosen nm) z = left nm (after-of (λ (M : Log). (M .did ≡ moved-on) × Turned (c .phase + 1) (c .cycle) (c .waiting) c (M .config)) (after-done _ _ (refl, phase-turned (c .phase + 1) c)) z)
+      at fs (chosen f v) z = went f v
+          (told-accepted _ (FireBarred program c (w .lawful-rows) (w .sound) (w .shaped) idle (c .phase) (f .rule) (f .match) (v .among)) (fire-told program c (w .lawful-rows) (w .sound) (w .shaped) idle (c .phase) (f .rule) (f .match) (v .among)) z)
+          (after-of (FiredIn (c .phase) (c .phase) (f .rule)) (fired-after program (c .phase) (c .phase) f (begin c) refl) z)
 
   in-exec : execute program c (keep is-due (c .plans)) ≡ accepted L → sets program < c .phase → StepObeys program c L
   in-exec e h = record {
     fires-first = λ s n g. absurd (omega arith);
+    fires-rightly = λ s n g. absurd (omega arith);
     leaves-set = λ g. absurd (omega arith);
     moves-on = λ g. absurd (omega arith);
+    moves-alone = λ g. absurd (omega arith);
     exec-fires-none = λ g s n f. after-of NotFired (not-fired-exec program c (keep is-due (c .plans))) e (ap number (f .1));
+    executes = λ g. told-accepted _ (ExecBarred program c (w .lawful-rows) (w .sound) (w .shaped)) (exec-told program c (w .lawful-rows) (w .sound) (w .shaped)) e;
   }
 
-  step-obeys : step program c ≡ accepted L → StepObeys program c L
-  unfolding step
-  step-obeys e =
-      let a = passed _ 1 _ e in
-      let b = passed _ 6 _ (a .1) in
-      at (leb (c .phase) (sets program)) refl (b .1)
-    where
-      at : (b : Bool) → leb (c .phase) (sets program) ≡ b → (if b then fire-first program c (firing program c (c .phase)) else execute program c (keep is-due (c .plans))) ≡ accepted L → StepObeys program c L
-      at true p z = in-set z (leb-true (c .phase) (sets program) p)
-      at false p z = in-exec z (leb-false (c .phase) (sets program) p)
+step-obeys : (program : List Row) (c : Config) (L : Log) → step program c ≡ accepted L → StepObeys program c L
+unfolding step
+step-obeys program c L e =
+    let a = passed _ 1 _ e in
+    let b = passed _ 6 _ (a .1) in
+    let w = given program c (not-false _ (a .0)) in
+    let idle = eqb-true (c .waiting) 0 (not-false _ (or-neither-right (eqb (c .phase) 0) (not (eqb (c .waiting) 0)) (b .0))) in
+    at w idle (leb (c .phase) (sets program)) refl (b .1)
+  where
+    at : Given program c → c .waiting ≡ 0 → (b : Bool) → leb (c .phase) (sets program) ≡ b → (if b then fire-first program c (firing program c (c .phase)) else execute program c (keep is-due (c .plans))) ≡ accepted L → StepObeys program c L
+    at w idle true p z = in-set program c L w idle z (leb-true (c .phase) (sets program) p)
+    at w idle false p z = in-exec program c L w idle z (leb-false (c .phase) (sets program) p)
+
+-- the other calls
+sense-obeys : (program : List Row) (c : Config) (rs : List Reading) (L : Log) → sense program c rs ≡ accepted L → SenseObeys program rs c L
+unfolding sense
+sense-obeys program c rs L e =
+    let a = passed _ 1 _ e in
+    let b = passed _ 6 _ (a .1) in
+    let d = passed _ 7 _ (b .1) in
+    let w = given program c (not-false _ (a .0)) in
+    let idle = eqb-true (c .waiting) 0 (not-false _ (or-neither-right (not (eqb (c .phase) 0)) (not (eqb (c .waiting) 0)) (b .0))) in
+    let fits = not-false (every in-range rs) (or-neither-right (ltb 64 (length rs)) (not (every in-range rs)) (d .0)) in
+    let rows = sense-rows program rs (begin c) in
+    let barred = RowBarred program c (w .lawful-rows) (w .sound) rs c in
+    let told = rows-told program c (w .lawful-rows) (w .sound) rs fits (begin c) (good-begin program c (w .shaped) idle) in
+    told-accepted (SenseObeys program rs c) barred
+    (told-then (λ M. Called M × Senses program rs c (M .config)) (SenseObeys program rs c) barred rows _ (told-after Called _ barred rows (called-rows program rs (begin c) refl) told)
+    (λ M x. told-done (SenseObeys program rs c) barred _ (record { fires-none = x .0; before-phase-1 = M .config; senses = x .1; then-phase-1 = phase-turned 1 (M .config) })))
+    (d .1)
+
+answers-so : (n : ℕ) (c : Config) → n ≤ 1 → Answered n c (answered n c)
+unfolding answered
+answers-so n c h = record { between = with-waiting 0 c; waiting-ends = waiting-turned 0 c; answers = at (eqb n 1) refl }
+  where
+    at : (b : Bool) → eqb n 1 ≡ b →
+        ((n ≡ 1) × StepDone (c .waiting) (with-waiting 0 c) (set-stepped (c .waiting) (if b then remove-step (c .waiting) (with-waiting 0 c) else set-failed (c .waiting) (with-waiting 0 c))))
+        ⊎ ((n ≡ 0) × StepFailed (c .waiting) (with-waiting 0 c) (set-stepped (c .waiting) (if b then remove-step (c .waiting) (with-waiting 0 c) else set-failed (c .waiting) (with-waiting 0 c))))
+    at true e = inl (eqb-true n 1 e, step-done (c .waiting) (with-waiting 0 c))
+    at false e = let z = eqb-false n 1 e in inr (omega arith, step-failed (c .waiting) (with-waiting 0 c))
+
+answer-obeys : (program : List Row) (c : Config) (n : ℕ) (L : Log) → answer program c n ≡ accepted L → (L .did ≡ called) × Answered n c (L .config)
+unfolding answer
+answer-obeys program c n L e = after-of (λ (M : Log). (M .did ≡ called) × Answered n c (M .config))
+    (after-unless _ _ _ _ (λ h. after-unless _ _ _ _ (λ i. after-unless _ _ _ _ (λ j. let k = ltb-false 1 n j in after-done _ _ (refl, answers-so n c (omega arith)))))) e
+
+delete-obeys : (program : List Row) (c : Config) (t : ℕ) (L : Log) → delete program c t ≡ accepted L → (L .did ≡ called) × Deleted t c (L .config)
+unfolding delete
+delete-obeys program c t L e = after-of (λ (M : Log). (M .did ≡ called) × Deleted t c (M .config))
+    (after-unless _ _ _ _ (λ h. after-unless _ _ _ _ (λ i. after-unless _ _ _ _ (λ j. after-done _ _ (refl, deleted c (given program c (not-false _ h) .sound) t))))) e
 
 pub demand-two : DemandTwo
-unfolding sense answer delete
-demand-two = record {
-  of-steps = step-obeys;
-  of-sense = λ program c rs L e. after-of Called
-      (after-unless Called _ _ _ (λ h. after-unless Called _ _ _ (λ i. after-unless Called _ _ _ (λ j. after-then Called Called (sense-rows program rs (begin c)) _ (called-rows program rs (begin c) refl) (λ M g. after-done Called _ g))))) e;
-  of-answer = λ program c n L e. after-of Called (after-unless Called _ _ _ (λ h. after-unless Called _ _ _ (λ i. after-unless Called _ _ _ (λ j. after-done Called _ refl)))) e;
-  of-delete = λ program c t L e. after-of Called (after-unless Called _ _ _ (λ h. after-unless Called _ _ _ (λ i. after-unless Called _ _ _ (λ j. after-done Called _ refl)))) e;
-}
+demand-two = record { of-steps = step-obeys; of-sense = sense-obeys; of-answer = answer-obeys; of-delete = delete-obeys }

@@ -8,10 +8,10 @@ use native.Mathlib.Omega.{arith}
 use lib.Dec.{eqb, leb}
 use lib.ListN.{length, set}
 use borrow.Author.Tests.{eqb-false, leb-false}
-use Rattle.lists.specs.Lists.{In, first, keep, first-of, if_then_else_, within}
+use Rattle.lists.specs.Lists.{In, first, keep, first-of, if_then_else_, within, rising-set}
 use Rattle.lists.proofs.Lists.{in-nil, in-one, in-left, in-right, in-append, in-map, map-in, keep-in}
 use Rattle.lists.proofs.Bind.{append-nil, bind-in}
-use Rattle.lists.proofs.RisingSet.{rising-set-rises, rising-set-in, rising-set-few, rising-set-some}
+use Rattle.lists.proofs.RisingSet.{rising-set-rises, rising-set-few, rising-set-some}
 use Rattle.model.specs.declared.Row.{Row}
 use Rattle.model.specs.declared.Atom.{Atom}
 use Rattle.model.specs.Program.{variable?, constant, reasons, context, body, rules-of, is-object}
@@ -19,7 +19,7 @@ use Rattle.model.specs.Configuration.{Config, most-atoms, most-plans, last-next
 use Rattle.model.specs.Graph.{Sound}
 use Rattle.model.specs.Deletion.{graph}
 use Rattle.model.specs.Events.{Fits, plan-made}
-use Rattle.model.specs.Matching.{Candidate, candidate, atom-candidates, candidates, negation, Found, nothing-found, justifications-of, rule-rows, rule-matches, Firing, firing}
+use Rattle.model.specs.Matching.{Candidate, candidate, atom-candidates, candidates, negation, Found, nothing-found, rule-rows, rule-matches, Firing, firing}
 use Rattle.model.specs.Meaning.{Match}
 use Rattle.model.specs.Log.{nothing, a-plan, fired, Log, begin, emit-plan, report}
 use Rattle.model.specs.Calls.{room-for-plan, fire-object, act, act-all, fire}
@@ -53,11 +53,11 @@ firing-matches program c s f h =
 
 module _ (program : List Row) (c : Config) (l : Lawful program) (s : Sound (graph c)) (w : Shaped program c) (z : c .waiting ≡ 0) (t n : ℕ) (g : Found) (i : In g (rule-matches program c t n)) where
   ks : List Candidate
-  ks = in-match program c t n g i .0
+  ks = in-match program c t n s g i .0
 
   match : Match program c t n ks g
   unfolding ks
-  match = in-match program c t n g i .1
+  match = in-match program c t n s g i .1
 
   -- the rows that match stand in the program
   row-among : (r : Row) → In r (rule-rows program t n) → In r program
@@ -95,14 +95,13 @@ module _ (program : List Row) (c : Config) (l : Lawful program) (s : Sound (grap
       odd : (r : Row) → r .op ≡ 1 → negation r ≡ false
       odd r e = rw e
 
-  pub fits : is-object program t n ≡ true → Fits (graph c) (plan-made (justifications-of g))
-  unfolding justifications-of
+  pub fits : is-object program t n ≡ true → Fits (graph c) (plan-made (g .matched))
   fits o =
       let a = reason-ids in
       let some = object-reasons l t n o in
       let few = l .few-reasons t n in
       let most = rising-set-few (g .matched) in
-      (rising-set-some (g .matched) (omega (arith, a .0)), omega (arith, a .0), rising-set-rises (g .matched), λ j h. a .1 j (rising-set-in (g .matched) j h))
+      (rising-set-some (g .matched) (omega (arith, a .0)), omega (arith, a .0), rising-set-rises (g .matched), a .1)
 
   -- OBJECT RULES
   body-valued : is-object program t n ≡ true → (r : Row) → In r (body program t n) → (x : ℕ) → Uses r x → variable? x ≡ true → Valued (g .values) x
@@ -118,7 +117,7 @@ module _ (program : List Row) (c : Config) (l : Lawful program) (s : Sound (grap
       no-step r h (inl (e, m)) = let a = object-step l t n o r h in let b = odd-small r e in let d = a .low in omega arith
       no-step r h (inr (e, m)) = let a = object-step l t n o r h in let d = a .low in omega arith
 
-  new-formed : is-object program t n ≡ true → PlanFormed program (c .atoms) (new-plan c t n (g .values) (length (body program t n)) (justifications-of g))
+  new-formed : is-object program t n ≡ true → PlanFormed program (c .atoms) (new-plan c t n (g .values) (length (body program t n)) (rising-set (g .matched)))
   new-formed o = record {
     object = o;
     left-fits = omega arith;
@@ -135,8 +134,8 @@ module _ (program : List Row) (c : Config) (l : Lawful program) (s : Sound (grap
   pub object-good : is-object program t n ≡ true → After (Good program c) (fire-object program t n g (begin c))
   unfolding fire-object room-for-plan
   object-good o = after-unless (Good program c) _ _ _ (λ e. after-unless (Good program c) _ _ _ (λ f. after-done (Good program c) _ (record {
-    faithful = faithful-report c (emit-plan t n (g .values) (length (body program t n)) (justifications-of g) (begin c)) (faithful-plan c (begin c) (good-begin program c w z .faithful) t n (g .values) (length (body program t n)) (justifications-of g) (fits o)) (fired t n (a-plan (c .next)));
-    shaped = shaped-plan program c w t n (g .values) (length (body program t n)) (justifications-of g) (new-formed o) (let d = eqb-false (c .next) last-next e in omega (arith, w .next-fits)) (leb-false most-plans (length (c .plans)) f);
+    faithful = faithful-report c (emit-plan t n (g .values) (length (body program t n)) (g .matched) (begin c)) (faithful-plan c (begin c) (good-begin program c w z .faithful) t n (g .values) (length (body program t n)) (g .matched) (fits o)) (fired t n (a-plan (c .next)));
+    shaped = shaped-plan program c w t n (g .values) (length (body program t n)) (rising-set (g .matched)) (new-formed o) (let d = eqb-false (c .next) last-next e in omega (arith, w .next-fits)) (leb-false most-plans (length (c .plans)) f);
     idle = z;
   })))
 
@@ -157,7 +156,7 @@ module _ (program : List Row) (c : Config) (l : Lawful program) (s : Sound (grap
     here : In r (body program t n)
     here = subst (In r) (sym e) (in-right before (first refl))
 
-    action : ActionRow r
+    pub action : ActionRow r
     action = meta-action l t n o r here
 
     -- an action but 21 gives nothing
@@ -208,7 +207,7 @@ module _ (program : List Row) (c : Config) (l : Lawful program) (s : Sound (grap
     flag-number : (r .op ≡ 23) ⊎ (r .op ≡ 24) → (1 ≤ constant (r .a)) × (constant (r .a) ≤ 16)
     flag-number = action-flag r action
 
-    one-action : AfterAction (Acting (before ++ (r ∷ []))) (act t n r v L)
+    pub one-action : AfterAction (Acting (before ++ (r ∷ []))) (act t n r v L)
     one-action = after-act t n r v L (Acting (before ++ (r ∷ [])))
         added
         (λ h k. still _ (omega arith) (good-deletion program c L (a .good) _))
@@ -217,7 +216,7 @@ module _ (program : List Row) (c : Config) (l : Lawful program) (s : Sound (grap
         (λ h k. still _ h (good-deletion program c L (a .good) _))
 
   -- at the start the queries have given their values
-  acting-first : Acting [] (g .values) (report (fired t n nothing) (begin c))
+  pub acting-first : Acting [] (g .values) (report (fired t n nothing) (begin c))
   acting-first = record {
     good = good-report program c (begin c) (good-begin program c w z) (fired t n nothing);
     values = solved .values;

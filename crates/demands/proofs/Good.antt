@@ -107,21 +107,24 @@ module _ (program : List Row) (c : Config) where
         at true = good-deletion L g t
         at false = g
 
-    pub good-rows : (rs : List Reading) → every in-range rs ≡ true → (L : Log) → Good L → After Good (sense-rows program rs L)
-    unfolding sense-rows sense-row make-atom in-range every
-    good-rows [] h L g = after-done Good L g
-    good-rows (r ∷ rs) h L g =
-        let a = and-eq-true-iff (in-range r) (every in-range rs) .0 h in
-        let b = and-eq-true-iff (within 1 2 (r .sign)) _ .0 (a .0) in
+    pub good-row : (r : Reading) → in-range r ≡ true → (L : Log) → Good L → After Good (sense-row program r L)
+    unfolding sense-row make-atom in-range
+    good-row r h L g =
+        let b = and-eq-true-iff (within 1 2 (r .sign)) _ .0 h in
         let d = and-eq-true-iff (within 1 255 (r .p)) _ .0 (b .1) in
         let e = and-eq-true-iff _ _ .0 (d .1) in
         let p = and-eq-true-iff (leb 1 (r .p)) (leb (r .p) 255) .0 (d .0) in
         let t = taken-fits r (leb-true 1 (r .p) (p .0)) (leb-true (r .p) 255 (p .1)) in
-        after-then Good Good (sense-row program r L) (sense-rows program rs)
-        (after-if Good (eqb (r .sign) 1) _ _
+        after-if Good (eqb (r .sign) 1) _ _
         (λ i. after-room Good L _ (λ j k. after-done Good _ (good-atom L g (taken-as program r) (r .a) (r .b) (t .0) (t .1) (leb-true (r .a) 65535 (e .0)) (leb-true (r .b) 65535 (e .1)) j k)))
-        (λ i. after-done Good _ (good-withdraw (equal-atoms (taken-as program r) (r .a) (r .b) (L .config)) L g)))
-        (λ M k. good-rows rs (a .1) M k)
+        (λ i. after-done Good _ (good-withdraw (equal-atoms (taken-as program r) (r .a) (r .b) (L .config)) L g))
+
+    pub good-rows : (rs : List Reading) → every in-range rs ≡ true → (L : Log) → Good L → After Good (sense-rows program rs L)
+    unfolding sense-rows every
+    good-rows [] h L g = after-done Good L g
+    good-rows (r ∷ rs) h L g =
+        let a = and-eq-true-iff (in-range r) (every in-range rs) .0 h in
+        after-then Good Good (sense-row program r L) (sense-rows program rs) (good-row r (a .0) L g) (λ M k. good-rows rs (a .1) M k)
 
   pub good-sensed : (L : Log) → Good L → Kept (quiet (with-phase 1) L)
   good-sensed L g = record { faithful = faithful-quiet c L (g .faithful) (with-phase 1) refl; shaped = shaped-phase program (L .config) (g .shaped) (g .idle) 1 (omega arith) }

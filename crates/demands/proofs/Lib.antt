@@ -2,7 +2,6 @@ pub mod Outcomes
 pub mod Runs
 pub mod Actions
 pub mod Steps
-pub mod DemandTwo
 pub mod Shape
 pub mod Values
 pub mod Kept
@@ -16,3 +15,11 @@ pub mod Exec
 pub mod Fresh
 pub mod Calls
 pub mod Numbers
+pub mod Told
+pub mod Effects
+pub mod SenseEffects
+pub mod FireEffects
+pub mod ExecEffects
+pub mod Choice
+pub mod DemandTwo
+pub mod DemandOne

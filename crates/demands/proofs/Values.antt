@@ -1,6 +1,6 @@
 -- The values along a match: eight of them, each 16 bits or none, and each variable that a query names has one afterwards.
 use mathlib.Core.Path.{_≡_, refl, sym, ap, _∙_, subst}
-use mathlib.Core.Bool.{Bool, true, false, and-eq-true-iff}
+use mathlib.Core.Bool.{true, false, and-eq-true-iff}
 use mathlib.Core.Logic.{_⊎_, inl, inr, ⊎-elim, _≢_}
 use mathlib.Core.List.{List, [], _∷_, _++_}
 use Prim.Native.Nat.{ℕ, zero, suc, _+_, _≤_}
@@ -8,13 +8,14 @@ use native.Mathlib.Omega.{arith}
 use lib.Dec.{leb, eqb}
 use lib.ListN.{length, getD, set, length-set, length-append}
 use lib.Seq.{getD-set-same, getD-set-other}
-use borrow.Author.Tests.{eqb-true, eqb-false, eq-eqb, ne-eqb, leb-true}
-use Rattle.lists.specs.Lists.{In, first, later, if_then_else_}
+use borrow.Author.Tests.{eqb-true, eqb-false, leb-true}
+use Rattle.lists.specs.Lists.{In, first, later}
 use Rattle.lists.proofs.Lists.{test, clash, in-nil, in-cons, in-one, in-append}
 use Rattle.model.specs.declared.Row.{Row}
 use Rattle.model.specs.Program.{variable?}
 use Rattle.model.specs.Configuration.{Config, no-value, place, value-of}
-use Rattle.model.specs.Matching.{Candidate, candidates, Found, found, negation}
+use Rattle.model.specs.Matching.{Candidate, candidates, Found, negation}
+use Rattle.search_laws.proofs.Shown.{in-shown}
 use Rattle.model.specs.Meaning.{Meets, by-any, by-constant, by-taking, by-value, Fits, Solves}
 
 abbrev pub Valued : List ℕ → ℕ → Type 0
@@ -119,7 +120,7 @@ module _ (c : Config) where
       let h = solves-values rs f ks g (λ q i. b q (later i)) v s in
       record { values = h .values; grows = h .grows; valued = λ x o q i m w. ⊎-elim (λ z. clash e (subst (λ (u : Row). negation u ≡ false) z m)) (λ z. h .valued x o q z m w) (in-cons i) }
   solves-values (r ∷ rs) f ks g b v (inr (e, (k, h, ls, p, t, s))) =
-      let d : Bounded k = b r (first refl) k (t .among) in
+      let d : Bounded k = b r (first refl) k (in-shown c r k (t .among)) in
       let a = solves-values rs h ls g (λ q i. b q (later i)) (fits-values r k (f .values) (h .values) d v (t .fits)) s in
       record {
         values = a .values;
@@ -137,20 +138,18 @@ module _ (c : Config) where
   pub reasons-match : (P : ℕ → Type 0) (rs : List Row) (f : Found) (ks : List Candidate) (g : Found) →
       ((r : Row) → In r rs → (r .part ≡ 1) × (negation r ≡ false) × ((k : Candidate) → In k (candidates c r) → P (k .i))) → ((n : ℕ) → In n (f .matched) → P n) →
       Solves c rs f ks g → (length (g .matched) ≡ length (f .matched) + length rs) × ((n : ℕ) → In n (g .matched) → P n)
-  unfolding found
   reasons-match P [] f ks g h p s = (ap (λ (u : Found). length (u .matched)) (s .1) ∙ omega arith, λ n i. p n (subst (λ (u : Found). In n (u .matched)) (s .1) i))
   reasons-match P (r ∷ rs) f ks g h p (inl (e, n, s)) = clash e (h r (first refl) .1)
   reasons-match P (r ∷ rs) f ks g h p (inr (e, (k, u, ls, q, t, s))) =
       let o = h r (first refl) in
-      let m : u .matched ≡ f .matched ++ (k .i ∷ []) = ap (λ (w : Found). w .matched) (t .notes) ∙ ap (λ (b : Bool). if b then f .matched ++ (k .i ∷ []) else f .matched) (eq-eqb (r .part) 1 (o .0)) in
+      let m : u .matched ≡ f .matched ++ (k .i ∷ []) = ⊎-elim (λ d. d .1) (λ d. absurd (d .0 (o .0))) (t .notes) in
       let a = reasons-match P rs u ls g (λ w i. h w (later i))
-      (λ n i. ⊎-elim (p n) (λ j. subst P (sym (in-one j)) (o .2 k (t .among))) (in-append (f .matched) (k .i ∷ []) (subst (In n) m i))) s in
+      (λ n i. ⊎-elim (p n) (λ j. subst P (sym (in-one j)) (o .2 k (in-shown c r k (t .among)))) (in-append (f .matched) (k .i ∷ []) (subst (In n) m i))) s in
       let l : length (u .matched) ≡ length (f .matched) + 1 = ap length m ∙ length-append (f .matched) (k .i ∷ []) in
       (omega (arith, a .0), a .1)
 
   pub context-matches : (rs : List Row) (f : Found) (ks : List Candidate) (g : Found) → ((r : Row) → In r rs → r .part ≢ 1) → Solves c rs f ks g → g .matched ≡ f .matched
-  unfolding found
   context-matches [] f ks g h s = ap (λ (u : Found). u .matched) (s .1)
   context-matches (r ∷ rs) f ks g h (inl (e, n, s)) = context-matches rs f ks g (λ w i. h w (later i)) s
   context-matches (r ∷ rs) f ks g h (inr (e, (k, u, ls, q, t, s))) =
-      context-matches rs u ls g (λ w i. h w (later i)) s ∙ ap (λ (w : Found). w .matched) (t .notes) ∙ ap (λ (b : Bool). if b then f .matched ++ (k .i ∷ []) else f .matched) (ne-eqb (r .part) 1 (h r (first refl)))
+      context-matches rs u ls g (λ w i. h w (later i)) s ∙ ⊎-elim (λ d. absurd (h r (first refl) (d .0))) (λ d. d .1) (t .notes)

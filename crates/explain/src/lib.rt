@@ -13,8 +13,11 @@ use text::Read;
 ghost use mathlib.Core.Path.{_≡_};
 ghost use mathlib.Core.Logic.{_≢_};
 ghost use Prim.Native.Nat.{_≤_};
+ghost use mathlib.Core.Option.{none};
+ghost use Rattle.model.specs.Text.{read-row};
 ghost use Rattle.model.specs.Load.{take-row};
 ghost use Rattle.rows.specs.Scanning.{whole as scanned, Small, verdict-of};
+ghost use Rattle.causes.specs.Checking.{InSetZero};
 ghost use Rattle.explain.specs.Explaining.{outside as is-outside, Misread, OfRow, Told};
 
 // 2: what is not as laid out. Columns have their number; a word stands from one place of the line to another.
@@ -25,7 +28,6 @@ pub enum Layout {
     Ninth,
     Empty(u32),
     Integer { column: u32, from: usize, to: usize },
-    Other,
 }
 
 // The cause of a refusal: of 2 Layout, of 5 Limit, of 3 Lack or Breach, of 4 Unvalued.
@@ -38,9 +40,10 @@ pub enum Cause {
     Unvalued(Unvalued),
 }
 
-// A cause, and the line of the text at which the load ends.
+// A cause, the refusal's line by its number, and the line of the text at which the load ends.
 pub struct Explained {
     pub cause: Cause,
+    pub line: u32,
     pub begin: usize,
     pub end: usize,
 }
@@ -54,6 +57,7 @@ fn outside(column: u32, x: u32) -> bool
 
 // "lines of eight integers in that order, one space between": what is wrong with a line that does not read so.
 fn layout_of(line: &[u8]) -> Layout
+    requires { ⌜ read-row (now line) ≡ none ⌝ }
     ensures { λ c. ⌜ Misread (now (line .entry)) c ⌝ }
 {
     let mut at: usize = 0;
@@ -75,10 +79,7 @@ fn layout_of(line: &[u8]) -> Layout
             return Layout::Integer { column, from, to };
         }
         if line.len() <= n {
-            if column < 8 {
-                return Layout::Columns(column);
-            }
-            return Layout::Other;
+            return Layout::Columns(column);
         }
         if line[n] != 32 {
             return Layout::Integer { column, from, to };
@@ -112,6 +113,7 @@ fn whole(q: RuleScan, ceilings: [u8; 256]) -> Scan
 // A row that is refused after the scan s, which is q with its ceilings.
 fn of_row(q: RuleScan, s: Scan, r: Row, v: Verdict) -> Cause
     requires { ⌜ Small s ⌝ }
+    requires { ⌜ InSetZero s ⌝ }
     requires { ⌜ r .p ≤ 255 ⌝ }
     requires { ⌜ (verdict-of v (s .ceilings) ≡ take-row s r) × (v .number ≢ 0) ⌝ }
     requires { ⌜ s ≡ scanned q (s .ceilings) ⌝ }
@@ -134,12 +136,13 @@ fn of_row(q: RuleScan, s: Scan, r: Row, v: Verdict) -> Cause
 
 // "Load tests lines in order": why the first that is refused is refused.
 pub fn explain(text: &[u8]) -> Explained
-    ensures { λ e. ⌜ Told (now (text .entry)) (e .begin) (e .end) (e .cause) ⌝ }
+    ensures { λ e. ⌜ Told (now (text .entry)) e ⌝ }
 {
     let first = text::newline(text, 0);
     if text.len() <= first {
         return Explained {
             cause: Cause::Layout(Layout::Names),
+            line: 1,
             begin: 0,
             end: first,
         };
@@ -147,6 +150,7 @@ pub fn explain(text: &[u8]) -> Explained
     if !text::is_names(&text[..first]) {
         return Explained {
             cause: Cause::Layout(Layout::Names),
+            line: 1,
             begin: 0,
             end: first,
         };
@@ -159,6 +163,7 @@ pub fn explain(text: &[u8]) -> Explained
         if text.len() <= end {
             return Explained {
                 cause: Cause::Layout(Layout::Unended),
+                line: s.count + 2,
                 begin: at,
                 end,
             };
@@ -166,6 +171,7 @@ pub fn explain(text: &[u8]) -> Explained
         let Line::Whole(row) = text::read_row(&text[at..end]) else {
             return Explained {
                 cause: Cause::Layout(layout_of(&text[at..end])),
+                line: s.count + 2,
                 begin: at,
                 end,
             };
@@ -175,6 +181,7 @@ pub fn explain(text: &[u8]) -> Explained
         if v.number != 0 {
             return Explained {
                 cause: of_row(s, before, row, v),
+                line: v.line,
                 begin: at,
                 end,
             };
@@ -186,12 +193,14 @@ pub fn explain(text: &[u8]) -> Explained
     if rows::lacking(s) {
         return Explained {
             cause: Cause::Lack(causes::lack_of(whole(s, ceilings))),
+            line: s.count + 1,
             begin: at,
             end: at,
         };
     }
     Explained {
         cause: Cause::Loads,
+        line: 0,
         begin: at,
         end: at,
     }

@@ -10,7 +10,7 @@ use Rattle.lists.proofs.Counted.{counted-long}
 use Rattle.model.specs.declared.Row.{Row}
 use Rattle.model.specs.Program.{body, is-object}
 use Rattle.model.specs.Configuration.{Config}
-use Rattle.model.specs.Matching.{justifications-of, rule-matches, Firing, firing}
+use Rattle.model.specs.Matching.{Found, justifications-of, rule-matches, Firing, firing}
 use Rattle.model.specs.Log.{a-plan, fired, begin, report, emit-plan, Outcome, accepted, answer-of}
 use Rattle.model.specs.Calls.{room-for-plan, fire-object, fire, fire-first}
 use Rattle.program.specs.Rows.{row-at, rows-of}
@@ -27,6 +27,11 @@ use Rattle.stepping.specs.Steps.{answered-by, WellWords}
 use Rattle.stepping.proofs.Standing.{lawful-rows, sound-graph, shaped, whole, flags-fit}
 use Rattle.firing.specs.Raising.{raised, Raises}
 use Rattle.acting.specs.Actions.{Fires, meta-work}
+use Rattle.lists.proofs.RisingSet.{rising-set-in}
+
+justified-in : (f : Found) (j : ℕ) → In j (justifications-of f) → In j (f .matched)
+unfolding justifications-of
+justified-in f j i = rising-set-in (f .matched) j i
 
 -- the queries can work on a well-formed configuration
 pub well-limits : (program words : List ℕ) (s : Scalars) → WellWords program words s → Limits words s
@@ -74,7 +79,7 @@ module _ (program words : List ℕ) (s : Scalars) (x : Choice) (is : choice-of x
     is-raised e = ap (raise-with) (sym body-long) ∙ ap (λ (b : Bool). if b then raise-with (length (body P (x .rule .set) n)) else meta-work program C (x .rule) (x .bindings .values)) (sym e)
       where
         raise-with : ℕ → Outcome
-        raise-with left = room-for-plan (begin C) (accepted (report (fired (x .rule .set) n (a-plan (s .next))) (emit-plan (x .rule .set) n (x .bindings .values) left (justifications-of (found-of (x .bindings))) (begin C))))
+        raise-with left = room-for-plan (begin C) (accepted (report (fired (x .rule .set) n (a-plan (s .next))) (emit-plan (x .rule .set) n (x .bindings .values) left (found-of (x .bindings) .matched) (begin C))))
 
     is-acted : is-object P (x .rule .set) n ≡ false → meta-work program C (x .rule) (x .bindings .values) ≡ fire P (x .rule .set) chosen (begin C)
     unfolding meta-work fire
@@ -97,7 +102,7 @@ module _ (program words : List ℕ) (s : Scalars) (x : Choice) (is : choice-of x
             few = h .few;
             ordered = h .located .ordered;
             short = let b = body-long in let m = l .short-body (x .rule .set) n in omega arith;
-            ids = λ j i e. let g = sound-graph program words s w .atom-given j (d .3 j i) .0 in omega arith;
+            ids = λ j i e. let g = sound-graph program words s w .atom-given j (d .3 j (justified-in (found-of (x .bindings)) j i)) .0 in omega arith;
           }
 
       pub acts : x .rule .object ≡ false → Fires program words s (x .rule)

@@ -41,7 +41,7 @@ module _ (words : List ℕ) (s : Scalars) (x : Choice) where
   pub raised-done : plan-bar (s .next) (s .plans) ≡ 0 → (words′ : List ℕ) (s′ : Scalars) (js : List ℕ) → js ≡ justifications-of (found-of (x .bindings)) →
       config-of words′ s′ ≡ add-plan (x .rule .set) (x .rule .number) (x .bindings .values) (x .rule .end - x .rule .body) js C →
       answered-by (s .next) words′ (record { scalars = s′; gone = 0; number = 0; did = Fired (x .rule .set) (x .rule .number) (Plan (s .next)) }) ≡ answer-of C (raised x (begin C))
-  unfolding raised
+  unfolding raised justifications-of
   raised-done b words′ s′ js f e =
       let d : config-of words′ s′ ≡ add-plan (x .rule .set) (x .rule .number) (x .bindings .values) (x .rule .end - x .rule .body) (justifications-of (found-of (x .bindings))) C =
       e ∙ ap (λ (m : List ℕ). add-plan (x .rule .set) (x .rule .number) (x .bindings .values) (x .rule .end - x .rule .body) m C) f in

@@ -16,7 +16,7 @@ use Rattle.matching.specs.declared.Choice.{Choice}
 unfoldable pub raised : Choice → Log → Outcome
 raised x L =
     room-for-plan L (accepted (report (fired (x .rule .set) (x .rule .number) (a-plan (L .config .next)))
-    (emit-plan (x .rule .set) (x .rule .number) (x .bindings .values) (x .rule .end - x .rule .body) (justifications-of (found-of (x .bindings))) L)))
+    (emit-plan (x .rule .set) (x .rule .number) (x .bindings .values) (x .rule .end - x .rule .body) (found-of (x .bindings) .matched) L)))
 
 -- the choice can be raised: four ids at most, none of them 0, a body that a rule may have
 pub record Raises (words : List ℕ) (s : Scalars) (x : Choice) : Type 0 where

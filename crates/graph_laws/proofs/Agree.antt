@@ -7,7 +7,7 @@ use Prim.Native.Nat.{ℕ, suc, _<_}
 use native.Mathlib.Omega.{arith}
 use lib.Dec.{eqb}
 use borrow.Author.Tests.{eqb-true, eq-eqb, not-true}
-use Rattle.lists.specs.Lists.{In, first, keep, member}
+use Rattle.lists.specs.Lists.{rising-set, In, first, keep, member}
 use Rattle.lists.proofs.Lists.{in-one, in-cast, in-left, in-right, in-append, in-map, map-in, in-keep, keep-in, keep-same, member-same, all-append, map-append, map-map, map-keep, pairs-append, pairs-all, pairs-keep, pairs-either}
 use Rattle.model.specs.Graph.{Link, Node, Graph, node-ids, justification-links, links, reached, survives, choose, unlinked, Sound, Alive}
 use Rattle.model.specs.Events.{linked, Event, atom-made, plan-made, subgoal-made, deletion, change, changes, Fits, AllFit}
@@ -15,6 +15,7 @@ use Rattle.model.specs.Journal.{Journal, Same, entered, all-entered, Exact}
 use Rattle.graph_laws.proofs.Sweep.{Before, Ordered, reach-more, swept, reached-closed}
 use Rattle.graph_laws.proofs.Links.{Of, link-from, link-to, owner-of, in-links, ordered-graph, graph-links, reached-is}
 use Rattle.graph_laws.proofs.Keeps.{choose-cases, loses-member, just-stays, subgoal-left, keeps}
+use Rattle.lists.proofs.RisingSet.{rising-set-in, in-rising-set}
 
 -- what goes along with each event: the two say the same, and the journal's links stand in order
 pub record Agree (g : Graph) (b : Journal) : Type 0 where
@@ -76,7 +77,7 @@ module _ (g : Graph) (s : Sound g) where
     -- A PLAN MORE
     module _ (js : List ℕ) (ok : Fits g (plan-made js)) where
       abbrev new-node : Node
-      new-node = record { id = g .next; justifications = js; subgoal = 0 }
+      new-node = record { id = g .next; justifications = rising-set js; subgoal = 0 }
 
       abbrev new-links : List Link
       new-links = justification-links (b .next) js
@@ -88,7 +89,7 @@ module _ (g : Graph) (s : Sound g) where
       )
         where
           new : Of new-node l → In l (b .links ++ new-links)
-          new (inl u) = in-right (b .links) (in-cast (λ i. link (l .from) ((u .1 ∙ a .same .same-next) i)) (in-map (λ (j : ℕ). link j (b .next)) (u .0)))
+          new (inl u) = in-right (b .links) (in-cast (λ i. link (l .from) ((u .1 ∙ a .same .same-next) i)) (in-map (λ (j : ℕ). link j (b .next)) (rising-set-in js (l .from) (u .0))))
           new (inr d) = absurd (d .2 refl)
 
           there : (q : Node) × In q (g .plans ++ (new-node ∷ [])) × Of q l → In l (b .links ++ new-links)
@@ -103,7 +104,7 @@ module _ (g : Graph) (s : Sound g) where
           back-new : In l new-links → In l (links (g .plans ++ (new-node ∷ [])))
           back-new k =
               let r = map-in (λ (j : ℕ). link j (b .next)) js k in
-              in-links l (in-right (g .plans) (first refl)) (inl (in-cast (link-from (r .2)) (r .1), link-to (r .2) ∙ sym (a .same .same-next)))
+              in-links l (in-right (g .plans) (first refl)) (inl (in-cast (link-from (r .2)) (in-rising-set js (r .0) (r .1)), link-to (r .2) ∙ sym (a .same .same-next)))
 
       agree-plan : Agree (change g (plan-made js)) (entered b (plan-made js))
       agree-plan = record {

@@ -94,6 +94,8 @@ module _ (c : Config) (s : Sound (graph c)) (t : ℕ) where
     );
     plan-kept = λ q i h w. in-cast (whole q) (stays q false i h (kept (q .subgoal) w));
     plan-shortened = λ q i h z w. stays q true i h (loses-member D (q .subgoal) z ∙ in-member (reached-is (graph c) s t (q .subgoal) .1 w));
+    next-kept = refl;
+    scalars-kept = record { same-phase = refl; same-cycle = refl; same-waiting = refl };
   }
     where
       ids-left : plan-ids (remove t c) ≡ keep (survives D) (plan-ids c)

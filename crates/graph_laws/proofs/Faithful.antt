@@ -11,6 +11,7 @@ use Rattle.model.specs.Log.{Log, begin, emit, emit-atom, emit-plan, emit-subgoa
 use Rattle.graph_laws.specs.Faithful.{Faithful, After, Emits}
 use Rattle.graph_laws.proofs.Keeps.{keeps-all}
 use Rattle.graph_laws.proofs.Turns.{changes-append, fit-append, gone-append, turns-atom, turns-plan, turns-subgoal, turns-remove}
+use Rattle.lists.specs.Lists.{rising-set}
 
 pub faithful-begin : (c : Config) → Faithful c (begin c)
 faithful-begin c = record { fits = tt; turns = refl; gone-is = refl }
@@ -31,7 +32,7 @@ module _ (c : Config) (L : Log) (f : Faithful c L) where
 
   pub faithful-plan : (s n : ℕ) (values : List ℕ) (left : ℕ) (js : List ℕ) → Fits (graph (L .config)) (plan-made js) →
       Faithful c (emit-plan s n values left js L)
-  faithful-plan s n values left js ok = faithful-emit (add-plan s n values left js (L .config)) (plan-made js) ok (turns-plan s n values left js (L .config))
+  faithful-plan s n values left js ok = faithful-emit (add-plan s n values left (rising-set js) (L .config)) (plan-made js) ok (turns-plan s n values left js (L .config))
 
   pub faithful-subgoal : (k p a b : ℕ) → Fits (graph (L .config)) (subgoal-made k) → Faithful c (emit-subgoal k p a b L)
   faithful-subgoal k p a b ok = faithful-emit (add-subgoal k p a b (L .config)) (subgoal-made k) ok (turns-subgoal k p a b (L .config))

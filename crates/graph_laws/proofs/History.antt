@@ -6,7 +6,7 @@ use mathlib.Core.List.{List, [], _∷_, _++_}
 use Prim.Native.Nat.{ℕ, _+_}
 use native.Mathlib.Omega.{arith}
 use borrow.Author.Tests.{not-true}
-use Rattle.lists.specs.Lists.{In, first, keep, member, count-up}
+use Rattle.lists.specs.Lists.{rising-set, In, first, keep, member, count-up}
 use Rattle.lists.proofs.Lists.{in-one, in-left, in-right, in-append, in-keep, keep-in, out-member, member-out, map-append, map-map}
 use Rattle.lists.proofs.Tests.{count-up-more}
 use Rattle.model.specs.Graph.{Node, Graph, node-ids, links, Reach, reached, survives, Sound, Alive}
@@ -117,7 +117,7 @@ module _ (x : ℕ) where
   alive-after : (g : Graph) (e : Event) → Sound g → Alive (change g e) x ↔ ((Alive g x × Missed g e x) ⊎ (Makes e × (x ≡ g .next)))
   alive-after g atom-made s = atom-more (g .atoms) (node-ids (g .plans)) (g .next)
   alive-after g (plan-made js) s =
-      rw (map-append (λ (q : Node). q .id) (g .plans) (record { id = g .next; justifications = js; subgoal = 0 } ∷ []))
+      rw (map-append (λ (q : Node). q .id) (g .plans) (record { id = g .next; justifications = rising-set js; subgoal = 0 } ∷ []))
       (plan-more (g .atoms) (node-ids (g .plans)) (g .next))
   alive-after g (subgoal-made k) s =
       rw (map-map (linked k (g .next)) (λ (q : Node). q .id) (g .plans))

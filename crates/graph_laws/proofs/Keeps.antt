@@ -8,12 +8,13 @@ use native.Mathlib.Omega.{arith}
 use lib.Dec.{eqb}
 use lib.ListN.{length}
 use borrow.Author.Tests.{eqb-true, not-true}
-use Rattle.lists.specs.Lists.{In, first, keep, Pairs, member}
+use Rattle.lists.specs.Lists.{rising-set, In, first, keep, Pairs, member}
 use Rattle.lists.proofs.Lists.{clash, in-cast, in-left, in-right, in-keep, in-member, out-member, all-snoc, all-map, all-keep, pairs-snoc, pairs-map, pairs-keep}
 use Rattle.model.specs.Graph.{Link, Node, Graph, links, reached, survives, loses-subgoal, choose, unlinked, without, Sound}
 use Rattle.model.specs.Events.{linked, Event, atom-made, plan-made, subgoal-made, deletion, change, changes, Fits, AllFit}
 use Rattle.graph_laws.proofs.Sweep.{reached-closed}
 use Rattle.graph_laws.proofs.Links.{in-links, ordered-graph}
+use Rattle.lists.proofs.RisingSet.{rising-set-in}
 
 pub choose-cases : (b : Bool) (s o : ℕ) → ((b ≡ true) × (choose b s o ≡ s)) ⊎ ((b ≡ false) × (choose b s o ≡ o))
 choose-cases true s o = inl (refl, refl)
@@ -127,7 +128,7 @@ module _ (g : Graph) (s : Sound g) where
   -- A PLAN MORE
   module _ (js : List ℕ) (ok : Fits g (plan-made js)) where
     abbrev new-node : Node
-    new-node = record { id = g .next; justifications = js; subgoal = 0 }
+    new-node = record { id = g .next; justifications = rising-set js; subgoal = 0 }
 
     keeps-plan : Sound (change g (plan-made js))
     keeps-plan = record {
@@ -138,7 +139,7 @@ module _ (g : Graph) (s : Sound g) where
       plan-given = all-snoc (Given (suc (g .next))) (g .plans) new-node (keeps-atom .plan-given) (omega (arith, s .next-pos));
       apart = all-snoc (Apart (g .atoms)) (g .plans) new-node (s .apart) (λ x i. let h = s .atom-given x i in omega arith);
       just-fine = all-snoc Few (g .plans) new-node (s .just-fine) (ok .0, ok .1, ok .2);
-      just-alive = all-snoc (Justified (g .atoms)) (g .plans) new-node (s .just-alive) (λ j i. (ok .3 j i, s .atom-given j (ok .3 j i) .1));
+      just-alive = all-snoc (Justified (g .atoms)) (g .plans) new-node (s .just-alive) (λ j i. let k = ok .3 j (rising-set-in js j i) in (k, s .atom-given j k .1));
       sub-alive = all-snoc (HasSubgoal (g .atoms)) (g .plans) new-node (s .sub-alive) (λ z. absurd (z refl));
       sub-one = all-snoc (OnlyOwner (g .plans ++ (new-node ∷ []))) (g .plans) new-node
           (λ p i. all-snoc (SameOwner p) (g .plans) new-node (s .sub-one p i) (λ z e. absurd (z e)))

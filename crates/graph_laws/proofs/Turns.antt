@@ -5,7 +5,7 @@ use mathlib.Core.List.{List, [], _∷_, _++_, map}
 use Prim.Native.Nat.{ℕ, _+_}
 use native.Mathlib.Omega.{arith}
 use lib.Dec.{eqb}
-use Rattle.lists.specs.Lists.{if_then_else_, keep}
+use Rattle.lists.specs.Lists.{rising-set, if_then_else_, keep}
 use Rattle.lists.proofs.Lists.{map-append, map-map, map-keep}
 use Rattle.model.specs.Graph.{Node, Graph, links, reached, survives, choose, unlinked}
 use Rattle.model.specs.Events.{linked, Event, atom-made, plan-made, subgoal-made, deletion, change, changes, AllFit, all-made, all-gone}
@@ -20,7 +20,7 @@ graph-path {k = k} p q = λ i. record { atoms = p i; plans = q i; next = k }
 pub turns-atom : (p a b : ℕ) (c : Config) → graph (add-atom p a b c) ≡ change (graph c) atom-made
 turns-atom p a b c = graph-path (map-append (λ (x : Atom). x .id) (c .atoms) (new-atom c p a b ∷ [])) refl
 
-pub turns-plan : (s n : ℕ) (values : List ℕ) (left : ℕ) (js : List ℕ) (c : Config) → graph (add-plan s n values left js c) ≡ change (graph c) (plan-made js)
+pub turns-plan : (s n : ℕ) (values : List ℕ) (left : ℕ) (js : List ℕ) (c : Config) → graph (add-plan s n values left (rising-set js) c) ≡ change (graph c) (plan-made js)
 turns-plan s n values left js c = graph-path refl (map-append node (c .plans) (_ ∷ []))
 
 -- the plan k gets the subgoal m, on the configuration and on the graph

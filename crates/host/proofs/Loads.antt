@@ -2,7 +2,7 @@
 use mathlib.Core.Path.{_≡_, refl, sym, ap, _∙_}
 use mathlib.Core.Bool.{Bool, true, false, _&&_}
 use mathlib.Core.Logic.{_≢_}
-use mathlib.Core.List.{List}
+use mathlib.Core.List.{List, [], _∷_}
 use Prim.Native.Nat.{ℕ, _+_, _*_}
 use native.Mathlib.Omega.{arith}
 use lib.ListN.{length}
@@ -21,7 +21,7 @@ use Rattle.loading.specs.Starting.{Start, started-from, starting}
 use Rattle.state.specs.View.{config-of}
 use Rattle.host.specs.Layout.{scalar-words, sized}
 use Rattle.host.specs.Calls.{held, seen, settled, LoadSeen, rows-report, loaded-as, load-seen}
-use Rattle.host.proofs.Settled.{settled-not, seen-after}
+use Rattle.host.proofs.Settled.{settled-not, padded-length, seen-after}
 
 abbrev unread : List ℕ → List ℕ → List ℕ → List ℕ → LoadSeen
 unread program words scalars report = record { seen-of = seen 1 words scalars report; program = program }
@@ -73,7 +73,7 @@ module _ (text program words scalars report : List ℕ) where
             at : (rows : List Row) → Starting.seen r after ≡ begun (loaded rows) →
                 record { seen-of = seen 0 words′ scalars′ report′; program = after } ≡ loaded-as (answer-of program (loaded rows)) (started-from (held words scalars report) (loaded rows)) report
             at rows f =
-                let h = seen-after words scalars report words′ scalars′ report′ (r .config .scalars) 0 (rows-report (r .rows)) z l refl s t (λ q. absurd (q refl)) (λ q. absurd (q refl)) 0 refl in
+                let h = seen-after words scalars report words′ scalars′ report′ (r .config .scalars) 0 (rows-report (r .rows)) z l (padded-length 8 (r .rows ∷ [])) s t (λ q. absurd (q refl)) (λ q. absurd (q refl)) 0 refl in
                 let a = ap (λ (y : List ℕ). config-of y (r .config .scalars)) w ∙ ap (λ (y : Start). y .config) f in
                 let b = ap (λ (y : Start). y .answer .rows) f in
                 let d = ap (λ (y : Start). y .answer .program) f in

@@ -2,9 +2,8 @@
 use mathlib.Core.Path.{_≡_, refl, sym, ap, _∙_}
 use mathlib.Core.Bool.{Bool, true, false, _&&_, and-false, and-eq-true-iff}
 use mathlib.Core.Logic.{_≢_, ⊎-elim}
-use mathlib.Core.List.{List}
-use Prim.Native.Nat.{ℕ, _+_}
-use native.Mathlib.Omega.{arith}
+use mathlib.Core.List.{List, [], _∷_}
+use Prim.Native.Nat.{ℕ, zero, suc, _+_}
 use lib.Dec.{eqb, leb}
 use lib.ListN.{length}
 use borrow.Author.Tests.{eqb-true, eq-eqb, ne-eqb}
@@ -15,8 +14,8 @@ use Rattle.model.specs.Configuration.{Config}
 use Rattle.model.specs.WellFormed.{config-formed, given-well}
 use Rattle.model.specs.Program.{sets}
 use Rattle.model.specs.Render.{well-formed}
-use Rattle.model.specs.Log.{Answer, nothing, an-atom, a-plan, Did, fired, moved-on, executed, waits, cycle-ended, called, Outcome, refused, answer-of}
-use Rattle.model.specs.Run.{Stop, at-phase-0, at-waiting, at-limit, next-refused, RunOutcome, run-refused, ran, run}
+use Rattle.model.specs.Log.{Answer, Did, Outcome, refused, answer-of}
+use Rattle.model.specs.Run.{RunOutcome, run-refused, ran, run}
 use Rattle.model.specs.Claims.{Call, reply}
 use Rattle.running.specs.Running.{stop-of}
 use Rattle.in_place.specs.declared.RunChange.{RunChange}
@@ -24,7 +23,7 @@ use Rattle.in_place.specs.Changes.{run-left-by}
 use Rattle.state.specs.declared.Scalars.{Scalars}
 use Rattle.state.specs.View.{config-of}
 use Rattle.in_place.specs.Given.{given-rows, admitted}
-use Rattle.host.specs.Layout.{scalars-of, scalar-words, sized, fired-words, did-words, report-of, run-report}
+use Rattle.host.specs.Layout.{scalars-of, scalar-words, sized, padded, report-of, run-report}
 use Rattle.host.specs.Calls.{no-config, held, seen, settled, answer-seen, reply-seen, outcome-seen, run-seen}
 
 module _ (n : ℕ) (before after : List ℕ) where
@@ -81,23 +80,11 @@ pub run-refused-seen : (words scalars report : List ℕ) (o : RunOutcome) → o 
 unfolding outcome-seen
 run-refused-seen words scalars report o e = ap (λ (x : RunOutcome). outcome-seen x (held words scalars report) report) (sym e)
 
-did-length : (d : Did) → length (did-words d) ≡ 6
-unfolding did-words fired-words
-did-length (fired s n nothing) = refl
-did-length (fired s n (an-atom id)) = refl
-did-length (fired s n (a-plan id)) = refl
-did-length moved-on = refl
-did-length (executed k how) = refl
-did-length (waits k p a b) = refl
-did-length cycle-ended = refl
-did-length called = refl
-
-stop-length : (made gone steps : ℕ) (w : Stop) → length (run-report made gone steps w) ≡ 8
-unfolding run-report
-stop-length made gone steps at-phase-0 = refl
-stop-length made gone steps at-waiting = refl
-stop-length made gone steps at-limit = refl
-stop-length made gone steps (next-refused n) = refl
+pub padded-length : (n : ℕ) (l : List ℕ) → length (padded n l) ≡ n
+unfolding padded
+padded-length zero l = refl
+padded-length (suc n) [] = ap suc (padded-length n [])
+padded-length (suc n) (x ∷ l) = ap suc (padded-length n l)
 
 -- AFTER A CALL
 module _ (words scalars report words′ scalars′ report′ : List ℕ) (left : Scalars) (number : ℕ) (told : List ℕ)
@@ -159,7 +146,7 @@ module _ (words scalars report words′ scalars′ report′ : List ℕ) (left :
       (seen result words′ scalars′ report′ ≡ reply-seen k words scalars report) × (result ≢ 0 → (words′ ≡ words) × (scalars′ ≡ scalars) × (report′ ≡ report))
   unfolding answer-seen
   call-after result e k f =
-      let m : length (report-of made gone did) ≡ 8 = let h = did-length did in omega arith in (
+      let m : length (report-of made gone did) ≡ 8 = padded-length 8 _ in (
         seen-after words scalars report words′ scalars′ report′ left number (report-of made gone did) z l m s r w g result e
             ∙ ap (λ (a : Answer). answer-seen a report) f
             ∙ ap (λ (c : Config). answer-seen (reply k c) report) (sym (held-as words scalars report z)),
@@ -174,7 +161,7 @@ module _ (words scalars report words′ scalars′ report′ : List ℕ) (c : Ru
   pub run-call-after : (result : ℕ) → result ≡ c .number → (rows : List Row) (limit : ℕ) → run-left-by words′ c ≡ run rows (config-of words (scalars-of scalars)) limit →
       (seen result words′ scalars′ report′ ≡ run-seen rows limit words scalars report) × (result ≢ 0 → (words′ ≡ words) × (scalars′ ≡ scalars) × (report′ ≡ report))
   run-call-after result e rows limit f =
-      let m = stop-length (c .made) (c .gone) (c .steps) (stop-of (c .stop)) in (
+      let m : length (run-report (c .made) (c .gone) (c .steps) (stop-of (c .stop))) ≡ 8 = padded-length 8 _ in (
         run-after words scalars report words′ scalars′ report′ (c .scalars) (c .number) _ z l m s r w g result e c refl refl refl (run rows (held words scalars report) limit)
             (f ∙ ap (λ (x : Config). run rows x limit) (sym (held-as words scalars report z))),
         all-kept words scalars report words′ scalars′ report′ (c .scalars) (c .number) _ z l m s r w g result e,

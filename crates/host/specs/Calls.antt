@@ -15,7 +15,7 @@ use Rattle.program.specs.Loading as Loading
 use Rattle.program.specs.Loading.{loading}
 use Rattle.loading.specs.Starting.{started-from}
 use Rattle.state.specs.View.{config-of}
-use Rattle.host.specs.Layout.{scalars-of, sized, report-of, run-report}
+use Rattle.host.specs.Layout.{scalars-of, sized, padded, report-of, run-report}
 
 -- slices of other lengths are no configuration: one that no program has stands for them, so that every call says 1
 abbrev pub no-config : Config
@@ -56,7 +56,7 @@ pub record LoadSeen : Type 0 where
   pub program : List ℕ
 
 abbrev pub rows-report : ℕ → List ℕ
-rows-report rows = rows ∷ 0 ∷ 0 ∷ 0 ∷ 0 ∷ 0 ∷ 0 ∷ 0 ∷ []
+rows-report rows = padded 8 (rows ∷ [])
 
 unfoldable pub loaded-as : Loading.Answer → Config → List ℕ → LoadSeen
 loaded-as a c report = record {

@@ -1,2 +1,5 @@
 pub mod Replies
-pub mod DemandThree
+pub mod Words
+pub mod Encoded
+pub mod Totals
+pub mod Loads

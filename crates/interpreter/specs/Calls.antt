@@ -1,9 +1,12 @@
 -- What a call answers, in the paper's terms.
+use mathlib.Core.Path.{_≡_}
 use mathlib.Core.List.{List}
 use Prim.Native.Nat.{ℕ}
+use Rattle.model.specs.declared.Row.{Row}
 use Rattle.model.specs.Configuration as Configuration
-use Rattle.model.specs.Log.{Answer, called}
+use Rattle.model.specs.Log.{Log, accepted, Answer, answer-of, called}
 use Rattle.model.specs.Run.{RunOutcome}
+use Rattle.model.specs.Claims.{StepObeys}
 use Rattle.state.specs.declared.Config.{Config}
 use Rattle.state.specs.View.{config-of}
 use Rattle.stepping.specs.Steps.{did-of}
@@ -26,6 +29,10 @@ reported r = record { number = r .number; did = called; config = conf (r .config
 
 abbrev pub step-reported : StepReply → Answer
 step-reported r = record { number = r .number; did = did-of (r .did); config = conf (r .config); made = r .made; gone = r .gone }
+
+-- demand 2 of a step's own answer: accepted, it is that of a work that obeys
+unfoldable pub Obeys : List Row → Configuration.Config → StepReply → Type 0
+Obeys program c r = r .number ≡ 0 → (L : Log) × (step-reported r ≡ answer-of c (accepted L)) × StepObeys program c L
 
 -- refused, or the steps in turn
 abbrev pub run-reported : RunReply → RunOutcome

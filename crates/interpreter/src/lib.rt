@@ -6,11 +6,15 @@ use state::Config;
 use stepping::Did;
 ghost use mathlib.Core.Path.{_≡_};
 ghost use mathlib.Core.Logic.{_≢_};
+ghost use Prim.Native.Nat.{_+_, _-_, _<_, _≤_};
+ghost use lib.Dec.{eqb};
+ghost use lib.ListN.{length};
+ghost use Rattle.lists.specs.Lists.{if_then_else_};
 ghost use Rattle.model.specs.Claims.{to-sense, to-step, to-answer, to-delete, reply};
 ghost use Rattle.model.specs.Run.{run as run-of-steps};
 ghost use Rattle.in_place.specs.Given.{given-rows, admitted, readings-of};
-ghost use Rattle.interpreter.specs.Claims.{DemandThreeOfCalls};
-ghost use Rattle.interpreter.specs.Calls.{conf, changed, reported, step-reported, run-reported, run-refusal};
+ghost use Rattle.interpreter.specs.Playing.{call-size, call-by, first-call, calls-of, EveryList, after-calls, playing, outcome, counted, AccountedFor, call-answer, Begun};
+ghost use Rattle.interpreter.specs.Calls.{conf, changed, reported, step-reported, Obeys, run-reported, run-refusal};
 
 // A call's answer: the refusal's number or 0, "the next configuration, made and gone".
 pub struct Reply {
@@ -94,6 +98,7 @@ pub fn sense(program: &[u32], config: Config, rows: &[u32]) -> Reply
 pub fn step(program: &[u32], config: Config) -> StepReply
     ensures { λ r. ⌜ step-reported r ≡ reply (to-step (given-rows (now (program .entry)))) (conf config) ⌝ }
     ensures untouched { λ r. ⌜ (r .number ≢ 0 → r .config ≡ config) ⌝ }
+    ensures obeys { λ r. ⌜ Obeys (given-rows (now (program .entry))) (conf config) r ⌝ }
 {
     let mut words = config.words;
     let t = in_place::step(program, &mut words, config.scalars);
@@ -127,9 +132,156 @@ pub fn run(program: &[u32], config: Config, limit: u32) -> RunReply
     }
 }
 
-// Demand 3: does nothing but promise it of the calls above, for every list of them.
-pub fn demand_three(x: u32) -> u32
-    ensures { λ r. ⌜ DemandThreeOfCalls ⌝ }
+// What a list of calls came to: the refusal and line of its load, or 0 and how many calls were worked; "made" and "gone" of them all.
+pub struct Played {
+    pub config: Config,
+    pub number: u32,
+    pub line: u32,
+    pub calls: usize,
+    pub made: u32,
+    pub gone: u32,
+}
+
+// How many words a call's own program has.
+fn own_words(own: u32) -> usize
+    ensures { λ r. ⌜ r ≡ own - 1 ⌝ }
 {
-    x
+    if 0 < own { (own - 1) as usize } else { 0 }
+}
+
+// How many words a call's readings are.
+fn reading_words(kind: u32, n: u32) -> usize
+    ensures { λ r. ⌜ r ≡ (if eqb kind 1 then n else 0) ⌝ }
+{
+    if kind == 1 { n as usize } else { 0 }
+}
+
+// How many words the first call takes; 0: there is none.
+fn call_size(words: &[u32]) -> usize
+    ensures { λ r. ⌜ r ≡ call-size (now (words .entry)) ⌝ }
+{
+    if words.len() < 3 {
+        return 0;
+    }
+    let kind = words[0];
+    let size = 3 + own_words(words[1]) + reading_words(kind, words[2]);
+    if (1 <= kind) & (kind <= 4) & (size <= words.len()) {
+        size
+    } else {
+        0
+    }
+}
+
+// A step without what it did.
+fn stepped(program: &[u32], config: Config) -> Reply
+    ensures { λ r. ⌜ reported r ≡ call-answer (reply (to-step (given-rows (now (program .entry)))) (conf config)) ⌝ }
+{
+    let s = step(program, config);
+    let next = s.config;
+    Reply {
+        config: next,
+        number: s.number,
+        made: s.made,
+        gone: s.gone,
+    }
+}
+
+// The call of this kind; a sense's readings stand first in the rest.
+fn work_call(program: &[u32], config: Config, kind: u32, n: u32, rest: &[u32]) -> Reply
+    requires { ⌜ (kind ≡ 1 → n ≤ length (now rest)) ⌝ }
+    ensures { λ r. ⌜ reported r ≡ call-answer (reply (call-by (given-rows (now (program .entry))) kind n (now (rest .entry))) (conf config)) ⌝ }
+{
+    if kind == 1 {
+        let end = n as usize;
+        return sense(program, config, &rest[..end]);
+    }
+    if kind == 2 {
+        return stepped(program, config);
+    }
+    if kind == 3 {
+        return answer(program, config, n);
+    }
+    delete(program, config, n)
+}
+
+// The first call, with its own program or the loaded one.
+fn play_call(program: &[u32], config: Config, words: &[u32]) -> Reply
+    requires { ⌜ call-size (now words) ≢ 0 ⌝ }
+    ensures { λ r. ⌜ reported r ≡ call-answer (reply (first-call (given-rows (now (program .entry))) (now (words .entry))) (conf config)) ⌝ }
+{
+    let kind = words[0];
+    let own = words[1];
+    let n = words[2];
+    let end = 3 + own_words(own);
+    let rest = &words[end..];
+    if own == 0 {
+        return work_call(program, config, kind, n, rest);
+    }
+    work_call(&words[3..end], config, kind, n, rest)
+}
+
+// One call more.
+fn counted(p: Played, r: Reply) -> Played
+    requires { ⌜ (p .calls < 18446744073709551615) × (p .made + r .made ≤ 65536) × (p .gone + r .gone ≤ 65536) ⌝ }
+    ensures { λ q. ⌜ q ≡ counted p r ⌝ }
+{
+    let config = r.config;
+    Played {
+        config: config,
+        number: p.number,
+        line: p.line,
+        calls: p.calls + 1,
+        made: p.made + r.made,
+        gone: p.gone + r.gone,
+    }
+}
+
+// The calls, one after the other, until the words are no call.
+fn play_calls(program: &[u32], config: Config, calls: &[u32]) -> Played
+    requires { ⌜ Begun (now program) (conf config) ⌝ }
+    ensures { λ r. ⌜ outcome r ≡ after-calls (given-rows (now (program .entry))) (calls-of (given-rows (now (program .entry))) (now (calls .entry))) ⌝ }
+{
+    let mut played = Played {
+        config: config,
+        number: 0,
+        line: 0,
+        calls: 0,
+        made: 0,
+        gone: 0,
+    };
+    let mut at: usize = 0;
+    loop {
+        let rest = &calls[at..];
+        let size = call_size(rest);
+        if size == 0 {
+            return played;
+        }
+        let current = played.config;
+        let r = play_call(program, current, rest);
+        played = counted(played, r);
+        at += size;
+    }
+}
+
+// Loads the text and works the calls, each with its own program or the loaded one (`specs/Playing` has their words).
+pub fn play(text: &[u8], calls: &[u32]) -> Played
+    ensures { λ r. ⌜ outcome r ≡ playing (now (text .entry)) (now (calls .entry)) ⌝ }
+    ensures accounted { λ r. ⌜ AccountedFor (now (text .entry)) (now (calls .entry)) r ⌝ }
+    ensures every_list { λ r. ⌜ EveryList ⌝ }
+{
+    let mut rows = [0u32; 4096];
+    let l = loading::load(text, &mut rows, Config::fresh());
+    let config = l.config;
+    if l.number != 0 {
+        return Played {
+            config: config,
+            number: l.number,
+            line: l.line,
+            calls: 0,
+            made: 0,
+            gone: 0,
+        };
+    }
+    let end = l.rows as usize * 8;
+    play_calls(&rows[..end], config, calls)
 }

@@ -5,11 +5,11 @@ use mathlib.Core.Logic.{⊎-elim}
 use mathlib.Core.List.{List, [], _∷_, _++_, map}
 use Prim.Native.Nat.{ℕ, zero, suc, _+_, _≤_, _<_}
 use native.Mathlib.Omega.{arith}
-use lib.Dec.{ltb}
+use lib.Dec.{ltb, eqb}
 use lib.ListN.{length}
-use borrow.Author.Tests.{ltb-true, lt-ltb}
-use Rattle.lists.specs.Lists.{In, first, later, Pairs, every, in-pairs, rises, count-up}
-use Rattle.lists.proofs.Lists.{in-nil, in-cons, in-map}
+use borrow.Author.Tests.{ltb-true, lt-ltb, eqb-true, eq-eqb}
+use Rattle.lists.specs.Lists.{In, first, later, Pairs, every, in-pairs, rises, count-up, same}
+use Rattle.lists.proofs.Lists.{clash, in-nil, in-cons, in-map}
 
 -- tests joined
 pub and2 : {a b : Bool} → a ≡ true → b ≡ true → (a && b) ≡ true
@@ -98,3 +98,20 @@ count-up-append k zero b m e =
 count-up-append k (suc a) b m e =
     let h : suc a + b ≡ suc (a + b) = omega arith in
     rw h (ap {B = List ℕ} (λ (l : List ℕ). k ∷ l) (count-up-append (suc k) a b m (omega arith)))
+
+-- equal lists, as a test
+pub same-equal : (l m : List ℕ) → same l m ≡ true → l ≡ m
+unfolding same
+same-equal [] [] e = refl
+same-equal [] (y ∷ m) e = clash e refl
+same-equal (x ∷ l) [] e = clash e refl
+same-equal (x ∷ l) (y ∷ m) e =
+    let a = and-eq-true-iff (eqb x y) (same l m) .0 e in
+    let h = eqb-true x y (a .0) in
+    let t = same-equal l m (a .1) in
+    λ i. h i ∷ t i
+
+pub same-self : (l : List ℕ) → same l l ≡ true
+unfolding same
+same-self [] = refl
+same-self (x ∷ l) = and2 (eq-eqb x x refl) (same-self l)

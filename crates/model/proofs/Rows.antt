@@ -14,6 +14,7 @@ cases-hold = record {
   order-of-tests = refl;
   query-rows = refl;
   body-rows = refl;
+  unused-columns = refl;
   limits-of-configurations = refl;
   clauses-of-configurations = refl;
   under-other-programs = refl;

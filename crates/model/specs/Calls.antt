@@ -8,8 +8,8 @@ use Rattle.lists.specs.Lists.{if_then_else_, within, keep, every, some}
 use Rattle.model.specs.Program.{Row, variable?, constant, sets, is-object, body}
 use Rattle.model.specs.Configuration.{Atom, Plan, Config, most-atoms, most-plans, last-next, place, operand, scheduled, stepped, failed, has-flag, with-flag, without-flag, remainder, atom-alive, plan-alive, equal-to, with-flags, step-removed, with-phase, with-waiting, change-plan}
 use Rattle.model.specs.WellFormed.{given-well}
-use Rattle.model.specs.Matching.{Found, justifications-of, Firing, firing}
-use Rattle.model.specs.Log.{nothing, an-atom, a-plan, How, empty, held, done, fired, moved-on, executed, waits, cycle-ended, Log, begin, emit-atom, emit-plan, emit-subgoal, emit-deletion, quiet, report, Outcome, refused, accepted, and-then, unless}
+use Rattle.model.specs.Matching.{Found, Firing, firing}
+use Rattle.model.specs.Log.{nothing, an-atom, a-plan, How, empty, held, done, fired, moved-on, executed, waits, cycle-ended, Log, begin, emit-atom, emit-plan, emit-subgoal, emit-deletion, quiet, report, Outcome, refused, accepted, and-then, unless, Answer, answer-of}
 use Rattle.model.specs.Log as Log
 
 -- "8 before 9 or 10 as the work meets them": one more atom, subgoal atom or plan
@@ -82,7 +82,7 @@ sense program c rs =
 unfoldable pub fire-object : List Row → ℕ → ℕ → Found → Log → Outcome
 fire-object program s n f L =
     room-for-plan L (accepted (report (fired s n (a-plan (L .config .next)))
-    (emit-plan s n (f .values) (length (body program s n)) (justifications-of f) L)))
+    (emit-plan s n (f .values) (length (body program s n)) (f .matched) L)))
 
 -- an action is done, with the values after it; or "its id is not a live instance of its kind"; or it meets a limit
 pub data Action : Type 0 where
@@ -230,6 +230,28 @@ delete program c t =
     (unless (not (eqb (c .waiting) 0)) 6
     (unless (not (atom-alive c t || plan-alive c t)) 12
     (accepted (emit-deletion t (begin c)))))
+
+-- A CALL of demand 3, "given the loaded program or another"
+pub data Call : Type 0 where
+  to-sense : List Row → List Reading → Call
+  to-step : List Row → Call
+  to-answer : List Row → ℕ → Call
+  to-delete : List Row → ℕ → Call
+
+unfoldable pub work : Call → Config → Outcome
+work (to-sense program rs) c = sense program c rs
+work (to-step program) c = step program c
+work (to-answer program n) c = answer program c n
+work (to-delete program t) c = delete program c t
+
+abbrev pub program-of : Call → List Row
+program-of (to-sense program rs) = program
+program-of (to-step program) = program
+program-of (to-answer program n) = program
+program-of (to-delete program t) = program
+
+abbrev pub reply : Call → Config → Answer
+reply k c = answer-of c (work k c)
 
 unfoldable pub opened : Unit {0}
 unfolding room-for-atom room-for-plan make-atom in-range applies replaced taken-as equal-atoms withdraw-if withdraw sense-row sense-rows sense fire-object acted-on add-action act after-action act-all fire fire-first is-due end-cycle succeed fail exists-atom take-step pass-over execute-plan execute step answered answer delete

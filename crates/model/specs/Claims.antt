@@ -11,37 +11,78 @@ use Rattle.model.specs.Configuration.{Config, fresh}
 use Rattle.model.specs.Graph.{Link, Graph, links, Reach, reached, Sound, Alive, initial-graph}
 use Rattle.model.specs.Deletion.{graph, links-in, remove, Deleted}
 use Rattle.model.specs.Load.{loaded, load}
+use Rattle.model.specs.Load as Load
+use Rattle.model.specs.Places.{RefusedAt, LoadedWith}
 use Rattle.model.specs.Render.{well-formed, text-of}
 use Rattle.model.specs.WellFormed.{given-well}
-use Rattle.model.specs.Matching.{Candidate, Found, rule-matches}
-use Rattle.model.specs.Meaning.{Match, HasMatch, NotAfter, FirstWithMatch}
+use Rattle.model.specs.Matching.{Found, rule-matches}
+use Rattle.model.specs.Meaning.{HasMatch, FirstMatch, FirstWithMatch}
 use Rattle.model.specs.Events.{Event}
 use Rattle.model.specs.Journal.{new-journal, all-entered, all-gone-in-journal, Same, Exact, ids-given, Spared, Born}
-use Rattle.model.specs.Log.{Made, fired, moved-on, called, Log, Outcome, refused, accepted, Answer, answer-of, events-of}
+use Rattle.model.specs.Log.{Made, fired, moved-on, called, Log, refused, accepted, Answer, events-of}
 use Rattle.model.specs.Calls.{Reading, sense, step, answer, delete}
-use Rattle.model.specs.Run.{Stop, at-phase-0, at-waiting, at-limit, next-refused, Run, ran, run}
+pub use Rattle.model.specs.Calls.{Call, to-sense, to-step, to-answer, to-delete}
+unfoldable pub use Rattle.model.specs.Calls.{work, program-of, reply}
+use Rattle.model.specs.Effects.{Turned, Senses, Fired, Executes, Answered}
+use Rattle.model.specs.Refusing.{refusals-of, Cause, RunCause}
+use Rattle.model.specs.Run.{Stop, at-phase-0, at-waiting, at-limit, next-refused, Run, ran, run-refused, run}
 
--- A CALL of demand 3, "given the loaded program or another"
-pub data Call : Type 0 where
-  to-sense : List Row → List Reading → Call
-  to-step : List Row → Call
-  to-answer : List Row → ℕ → Call
-  to-delete : List Row → ℕ → Call
+-- DEMAND 1: "Every call that 01 allows is worked to an end ..; all else is refused by the number in 01's table, and a refused call leaves
+-- program and configuration exactly as they were."
+pub record RefusedRightly (k : Call) (c : Config) (a : Answer) : Type 0 where
+  pub among : In (a .number) (0 ∷ refusals-of k)
+  -- a number that is given has its cause, and 1, 6, 7, 11 and 12 are given wherever theirs holds
+  pub for-cause : (n : ℕ) → n ≢ 0 → a .number ≡ n → Cause k c n
+  pub wherever : (n : ℕ) → In n (1 ∷ 6 ∷ 7 ∷ 11 ∷ 12 ∷ []) → Cause k c n → a .number ≡ n
+  -- "a refused call undoes its earlier part and reports made 0, gone 0"
+  pub leaves-all : (n : ℕ) → n ≢ 0 → a .number ≡ n → a ≡ record { number = n; did = called; config = c; made = 0; gone = 0 }
 
-unfoldable pub work : Call → Config → Outcome
-work (to-sense program rs) c = sense program c rs
-work (to-step program) c = step program c
-work (to-answer program n) c = answer program c n
-work (to-delete program t) c = delete program c t
+-- LOADING: the rows of an accepted load, and the number and the line of a refused one, by the places that it comes to. Proved in
+-- `program_laws`.
+pub record LoadsRightly : Type 0 where
+  pub accepted-when : (text : List ℕ) (rows : List Row) → (load text ≡ loaded rows) ↔ LoadedWith text rows
+  pub refused-when : (text : List ℕ) (n k : ℕ) → (load text ≡ Load.refused n k) ↔ RefusedAt text n k
 
-abbrev pub program-of : Call → List Row
-program-of (to-sense program rs) = program
-program-of (to-step program) = program
-program-of (to-answer program n) = program
-program-of (to-delete program t) = program
+-- Proved in `demands`.
+pub record DemandOne : Type 0 where
+  pub of-loads : LoadsRightly
+  pub of-calls : (k : Call) (c : Config) → RefusedRightly k c (reply k c)
+  pub of-runs : (program : List Row) (c : Config) (limit n : ℕ) → (run program c limit ≡ run-refused n) ↔ RunCause program c limit n
 
-abbrev pub reply : Call → Config → Answer
-reply k c = answer-of c (work k c)
+-- DEMAND 2: "in phases 1 to k a rule fires exactly when it is the first of its set with a match, and the set is left exactly when
+-- no rule has one"
+
+-- the step fired rule n of set s
+abbrev pub Fires : Log → ℕ → ℕ → Type 0
+Fires L s n = (m : Made) × (L .did ≡ fired s n m)
+
+abbrev pub NoMatch : List Row → Config → ℕ → Type 0
+NoMatch program c s = (n : ℕ) → In n (rules-of program s) → ¬ HasMatch program c s n
+
+pub record StepObeys (program : List Row) (c : Config) (L : Log) : Type 0 where
+  pub fires-first : (s n : ℕ) → c .phase ≤ sets program → Fires L s n ↔ ((s ≡ c .phase) × FirstWithMatch program c s n)
+  -- what the rule does with its first match, and nothing else
+  pub fires-rightly : (s n : ℕ) → c .phase ≤ sets program → Fires L s n → (g : Found) × FirstMatch program c s n g × Fired program s n g c (L .config) (L .did)
+  pub leaves-set : c .phase ≤ sets program → (L .config .phase ≡ c .phase + 1) ↔ NoMatch program c (c .phase)
+  pub moves-on : c .phase ≤ sets program → (L .did ≡ moved-on) ↔ NoMatch program c (c .phase)
+  -- "the phase rises by 1", and nothing else changes
+  pub moves-alone : c .phase ≤ sets program → L .did ≡ moved-on → Turned (c .phase + 1) (c .cycle) (c .waiting) c (L .config)
+  pub exec-fires-none : sets program < c .phase → (s n : ℕ) → ¬ Fires L s n
+  pub executes : sets program < c .phase → Executes program c (L .config) (L .did)
+
+-- "nothing else fires a rule"; sense, answer and delete do what they say and no more. Proved in `demands`.
+pub record SenseObeys (program : List Row) (rs : List Reading) (c : Config) (L : Log) : Type 0 where
+  pub fires-none : L .did ≡ called
+  pub before-phase-1 : Config
+  pub senses : Senses program rs c before-phase-1
+  -- "Rows in order; then phase 1."
+  pub then-phase-1 : Turned 1 (before-phase-1 .cycle) (before-phase-1 .waiting) before-phase-1 (L .config)
+
+pub record DemandTwo : Type 0 where
+  pub of-steps : (program : List Row) (c : Config) (L : Log) → step program c ≡ accepted L → StepObeys program c L
+  pub of-sense : (program : List Row) (c : Config) (rs : List Reading) (L : Log) → sense program c rs ≡ accepted L → SenseObeys program rs c L
+  pub of-answer : (program : List Row) (c : Config) (n : ℕ) (L : Log) → answer program c n ≡ accepted L → (L .did ≡ called) × Answered n c (L .config)
+  pub of-delete : (program : List Row) (c : Config) (t : ℕ) (L : Log) → delete program c t ≡ accepted L → (L .did ≡ called) × Deleted t c (L .config)
 
 -- the configuration after the calls; "The rules above, worked through the list from the loaded configuration, turn the accepted
 -- calls into events in order"; what the calls reported in all
@@ -85,34 +126,10 @@ unfoldable pub DemandThree : Type 0
 DemandThree = (text : List ℕ) (program : List Row) → load text ≡ loaded program → (ks : List Call) →
     Accounted (length (initial-atoms program)) (events-after (fresh program) ks) (graph (config-after (fresh program) ks)) (made-after (fresh program) ks) (gone-after (fresh program) ks)
 
--- DEMAND 2: "in phases 1 to k a rule fires exactly when it is the first of its set with a match, and the set is left exactly when
--- no rule has one"
-
--- the step fired rule n of set s
-abbrev pub Fires : Log → ℕ → ℕ → Type 0
-Fires L s n = (m : Made) × (L .did ≡ fired s n m)
-
-abbrev pub NoMatch : List Row → Config → ℕ → Type 0
-NoMatch program c s = (n : ℕ) → In n (rules-of program s) → ¬ HasMatch program c s n
-
-pub record StepObeys (program : List Row) (c : Config) (L : Log) : Type 0 where
-  pub fires-first : (s n : ℕ) → c .phase ≤ sets program → Fires L s n ↔ ((s ≡ c .phase) × FirstWithMatch program c s n)
-  pub leaves-set : c .phase ≤ sets program → (L .config .phase ≡ c .phase + 1) ↔ NoMatch program c (c .phase)
-  pub moves-on : c .phase ≤ sets program → (L .did ≡ moved-on) ↔ NoMatch program c (c .phase)
-  pub exec-fires-none : sets program < c .phase → (s n : ℕ) → ¬ Fires L s n
-
--- "nothing else fires a rule". Proved in `demands`.
-pub record DemandTwo : Type 0 where
-  pub of-steps : (program : List Row) (c : Config) (L : Log) → step program c ≡ accepted L → StepObeys program c L
-  pub of-sense : (program : List Row) (c : Config) (rs : List Reading) (L : Log) → sense program c rs ≡ accepted L → L .did ≡ called
-  pub of-answer : (program : List Row) (c : Config) (n : ℕ) (L : Log) → answer program c n ≡ accepted L → L .did ≡ called
-  pub of-delete : (program : List Row) (c : Config) (t : ℕ) (L : Log) → delete program c t ≡ accepted L → L .did ≡ called
-
 -- MATCHING: the search finds a match exactly when there is one, and then the first in the paper's order. Proved in `search_laws`.
 pub record SearchExact : Type 0 where
   pub finds : (program : List Row) (c : Config) (s n : ℕ) → HasMatch program c s n → (g : Found) × (rest : List Found) × (rule-matches program c s n ≡ g ∷ rest)
-  pub first-of-all : (program : List Row) (c : Config) (s n : ℕ) (g : Found) (rest : List Found) → Sound (graph c) → rule-matches program c s n ≡ g ∷ rest →
-      (ks : List Candidate) × Match program c s n ks g × ((ls : List Candidate) (h : Found) → Match program c s n ls h → NotAfter ks ls)
+  pub first-of-all : (program : List Row) (c : Config) (s n : ℕ) (g : Found) (rest : List Found) → Sound (graph c) → rule-matches program c s n ≡ g ∷ rest → FirstMatch program c s n g
 
 -- DELETION: one pass over the links finds exactly what is reached, and a deletion removes exactly that. Proved in `graph_laws`.
 unfoldable pub ReachedExactly : Type 0
@@ -130,8 +147,6 @@ pub record WellFormedLoads : Type 0 where
 pub record KeepsWellFormed : Type 0 where
   pub loads-well : (text : List ℕ) (program : List Row) → load text ≡ loaded program → given-well program (fresh program) ≡ true
   pub calls-keep : (k : Call) (c : Config) (L : Log) → work k c ≡ accepted L → given-well (program-of k) (L .config) ≡ true
-  -- "a refused call leaves program and configuration exactly as they were", made 0, gone 0
-  pub refused-leaves : (k : Call) (c : Config) (n : ℕ) → work k c ≡ refused n → reply k c ≡ record { number = n; did = called; config = c; made = 0; gone = 0 }
   -- "`made` is the rise of next id"
   pub made-rises : (k : Call) (c : Config) → reply k c .config .next ≡ c .next + reply k c .made
 

@@ -1,5 +1,6 @@
 -- "The configuration": atom and plan instances, each list in rising id (DECISIONS 31), and the scalars.
 use Prim.Native.Nat.{ℕ, suc, _+_, _-_, _/_, _%_, _^_}
+use mathlib.Core.Path.{_≡_}
 use mathlib.Core.Bool.{Bool, _&&_}
 use mathlib.Core.List.{List, [], _∷_, _++_, map}
 use lib.Dec.{eqb}
@@ -32,6 +33,12 @@ pub record Config : Type 0 where
   pub next : ℕ
   -- the plan waiting for an answer, 0 for none
   pub waiting : ℕ
+
+-- phase, cycle and the waiting plan are as they were
+pub record SameScalars (c d : Config) : Type 0 where
+  pub same-phase : d .phase ≡ c .phase
+  pub same-cycle : d .cycle ≡ c .cycle
+  pub same-waiting : d .waiting ≡ c .waiting
 
 -- "At most 256 alive." "At most 64 alive." "next id 1 to 65,536"
 abbrev pub most-atoms : ℕ

@@ -5,7 +5,7 @@ use mathlib.Core.List.{List, map}
 use Prim.Native.Nat.{ℕ, _-_}
 use Rattle.lists.specs.Lists.{In, keep, bit}
 use Rattle.model.specs.Graph.{Link, Node, Graph, links, Reach, reached, survives, loses-subgoal, choose}
-use Rattle.model.specs.Configuration.{Atom, Plan, Config, atom-ids, plan-ids, with-instances, with-subgoal, step-removed}
+use Rattle.model.specs.Configuration.{Atom, Plan, Config, SameScalars, atom-ids, plan-ids, with-instances, with-subgoal, step-removed}
 
 abbrev pub node : Plan → Node
 node q = record { id = q .id; justifications = q .justifications; subgoal = q .subgoal }
@@ -48,3 +48,5 @@ pub record Deleted (t : ℕ) (c d : Config) : Type 0 where
   pub links-left : (l : Link) → In l (links-in d) ↔ (In l (links-in c) × (¬ LeadsTo c t (l .from)) × (¬ LeadsTo c t (l .to)))
   pub plan-kept : (q : Plan) → In q (c .plans) → ¬ LeadsTo c t (q .id) → (q .subgoal ≡ 0) ⊎ (¬ LeadsTo c t (q .subgoal)) → In q (d .plans)
   pub plan-shortened : (q : Plan) → In q (c .plans) → ¬ LeadsTo c t (q .id) → q .subgoal ≢ 0 → LeadsTo c t (q .subgoal) → In (with-subgoal 0 (step-removed q)) (d .plans)
+  pub next-kept : d .next ≡ c .next
+  pub scalars-kept : SameScalars c d

@@ -4,7 +4,7 @@ use mathlib.Core.List.{List, [], _∷_, _++_, map}
 use Prim.Native.Nat.{ℕ, suc, _+_, _≤_, _<_}
 use lib.Dec.{eqb}
 use lib.ListN.{length}
-use Rattle.lists.specs.Lists.{In, keep, Pairs, member}
+use Rattle.lists.specs.Lists.{In, keep, Pairs, member, rising-set}
 use Rattle.model.specs.Graph.{Node, Graph, node-ids, links, reached, choose, delete-from}
 
 -- "an atom made (an add, 21, 34, 36), a plan made, a deletion with its target (an atom withdrawn, 22, 25, 35, delete)";
@@ -21,7 +21,7 @@ linked k s q = record { id = q .id; justifications = q .justifications; subgoal 
 
 abbrev pub change : Graph → Event → Graph
 change g atom-made = record { atoms = g .atoms ++ (g .next ∷ []); plans = g .plans; next = suc (g .next) }
-change g (plan-made js) = record { atoms = g .atoms; plans = g .plans ++ (record { id = g .next; justifications = js; subgoal = 0 } ∷ []); next = suc (g .next) }
+change g (plan-made js) = record { atoms = g .atoms; plans = g .plans ++ (record { id = g .next; justifications = rising-set js; subgoal = 0 } ∷ []); next = suc (g .next) }
 change g (subgoal-made k) = record { atoms = g .atoms ++ (g .next ∷ []); plans = map (linked k (g .next)) (g .plans); next = suc (g .next) }
 change g (deletion t) = delete-from t g
 
@@ -32,7 +32,7 @@ changes g (e ∷ es) = changes (change g e) es
 -- what the rules see to: a plan's justifications are live atoms, 1 to 4, rising; a subgoal is made for a live plan that has none
 abbrev pub Fits : Graph → Event → Type 0
 Fits g atom-made = Unit {0}
-Fits g (plan-made js) = (1 ≤ length js) × (length js ≤ 4) × Pairs (λ (i j : ℕ). i < j) js × ((j : ℕ) → In j js → In j (g .atoms))
+Fits g (plan-made js) = (1 ≤ length (rising-set js)) × (length (rising-set js) ≤ 4) × Pairs (λ (i j : ℕ). i < j) (rising-set js) × ((j : ℕ) → In j js → In j (g .atoms))
 Fits g (subgoal-made k) = (q : Node) × In q (g .plans) × (q .id ≡ k) × (q .subgoal ≡ 0)
 Fits g (deletion t) = Unit {0}
 

@@ -4,6 +4,7 @@ pub mod Graph
 pub mod Deletion
 pub mod Text
 pub mod Load
+pub mod Places
 pub mod Render
 pub mod WellFormed
 pub mod Matching
@@ -11,8 +12,11 @@ pub mod Events
 pub mod Log
 pub mod Calls
 pub mod Run
+pub mod Numbers
 pub mod Journal
 pub mod Meaning
+pub mod Effects
+pub mod Refusing
 pub mod Claims
 pub mod Play
 pub mod Keys

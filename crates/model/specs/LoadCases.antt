@@ -119,6 +119,9 @@ order =
     ∷ refuses "0 33 0 41 0 1 0 0\n" 5 2
     ∷ refuses "0 32 0 41 0 1 0 0\n" 3 2
     ∷ refuses (joined (repeat 256 an-atom ∷ a-rule ∷ "0 0 0 41 1 1 0 0\n" ∷ [])) 5 259
+    -- a ceiling, or op 41 in another set, is no initial atom
+    ∷ loads (joined (repeat 256 an-atom ∷ "0 0 0 40 0 1 1 1\n" ∷ []))
+    ∷ refuses (joined (repeat 256 an-atom ∷ a-rule ∷ "1 1 3 41 0 1 0 0\n" ∷ [])) 3 259
     -- R12: the rows of the rule being read are counted; one that goes back to an earlier rule is out of order
     ∷ refuses (joined (repeat 4 a-rule ∷ "1 1 2 1 -1 1 0 0\n" ∷ a-rule ∷ [])) 5 7
     ∷ refuses (joined (repeat 3 a-rule ∷ "1 1 2 1 -1 1 0 0\n" ∷ a-rule ∷ [])) 3 6
@@ -129,7 +132,9 @@ order =
     ∷ refuses (repeat 5 a-rule) 5 6
     ∷ refuses (joined (a-rule ∷ repeat 7 "1 1 2 1 -1 1 0 0\n" ∷ [])) 5 9
     ∷ refuses (joined (a-rule ∷ repeat 9 "1 1 3 31 0 1 0 0\n" ∷ [])) 5 11
-    ∷ refuses (joined (repeat 7 lacking ∷ [])) 5 8
+    ∷ loads (joined (repeat 6 lacking ∷ repeat 8 an-action ∷ []))
+    ∷ refuses (repeat 7 lacking) 5 8
+    ∷ refuses (joined (lacking ∷ repeat 9 an-action ∷ [])) 5 11
     -- R13: "At most 512 rows", those of set 0 among them; here in 8 sets of up to 32 rules
     ∷ with-rows (joined ("0 0 0 40 0 1 1 1\n" ∷ repeat 256 an-atom ∷ [])) (one-row-rules 256) 5 514
     -- "Sets 1 to 8, rules 1 to 32 in a set, both numbered from 1 without gaps, rows by set, rule, part"
@@ -147,9 +152,10 @@ order =
     ∷ refuses (joined (lacking ∷ a-rule ∷ [])) 3 3
     ∷ refuses "1 1 0 1 -1 1 0 0\n" 3 2
     ∷ refuses (after-reason "1 1 4 31 0 1 0 0\n") 3 3
-    -- R21: a rule against its set's kind is found at its first row
-    ∷ refuses (after-reason "1 2 3 31 0 1 0 0\n") 3 3
-    ∷ refuses (after-reason "1 2 2 1 -1 1 0 0\n") 3 3
+    -- R21: a rule against its set's kind is found at its first row, whatever follows it
+    ∷ refuses (after-reason "1 2 3 31 0 1 0 0\n1 2 3 31 0 1 0 0\n") 3 3
+    ∷ refuses (after-reason "1 2 3 22 5 0 0 0\n1 2 3 22 5 0 0 0\n") 3 3
+    ∷ refuses (after-reason "1 2 2 1 -1 1 0 0\n1 2 3 22 5 0 0 0\n") 3 3
     ∷ refuses (joined (lacking ∷ an-action ∷ a-second ∷ [])) 3 4
     ∷ loads (joined (a-rule ∷ "2 1 2 3 -1 0 -9 -9\n" ∷ "2 1 3 22 -1 0 0 0\n" ∷ []))
     -- R22: ceilings and initial atoms stand before all rules, in any order

@@ -2,6 +2,7 @@
 use mathlib.Core.List.{List, [], _∷_, _++_}
 use mathlib.Core.Bool.{Bool, true, false}
 use Prim.Native.Nat.{ℕ, _+_, _-_}
+use Rattle.lists.specs.Lists.{rising-set}
 use Rattle.model.specs.Configuration.{Config, add-atom, add-plan, add-subgoal}
 use Rattle.model.specs.Deletion.{graph, remove}
 use Rattle.model.specs.Events.{Event, atom-made, plan-made, subgoal-made, deletion, gone-by}
@@ -43,7 +44,7 @@ abbrev pub emit-atom : ℕ → ℕ → ℕ → Log → Log
 emit-atom p a b L = emit L (add-atom p a b (L .config)) atom-made
 
 abbrev pub emit-plan : ℕ → ℕ → List ℕ → ℕ → List ℕ → Log → Log
-emit-plan s n values left js L = emit L (add-plan s n values left js (L .config)) (plan-made js)
+emit-plan s n values left ms L = emit L (add-plan s n values left (rising-set ms) (L .config)) (plan-made ms)
 
 abbrev pub emit-subgoal : ℕ → ℕ → ℕ → ℕ → Log → Log
 emit-subgoal k p a b L = emit L (add-subgoal k p a b (L .config)) (subgoal-made k)

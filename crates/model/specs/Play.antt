@@ -1,6 +1,6 @@
 -- Calls in turn on a loaded program, and what they leave, as text: the form of the tables in Keys and Cases.
 -- The first line is what the last call answered: number, made, gone, and what a step did (`did-numbers`), or after a run the steps taken
--- and why it stopped (`stop-numbers`). The second line: phase, cycle, next id, waiting. Then the live instances by id: an atom's kind 1,
+-- and why it stopped (`stop-number`). The second line: phase, cycle, next id, waiting. Then the live instances by id: an atom's kind 1,
 -- id, p, a, b and 0; a plan's kind 2, id, set, rule, steps left, subgoal, flags and justifications.
 use Prim.Native.Nat.{ℕ}
 use Prim.Native.String.{String}
@@ -20,12 +20,14 @@ use Rattle.model.specs.Load as Load
 use Rattle.model.specs.Render as Render
 use Rattle.model.specs.WellFormed as WellFormed
 use Rattle.model.specs.Matching as Matching
-use Rattle.model.specs.Log.{Made, nothing, an-atom, a-plan, How, empty, held, done, failed, Did, fired, moved-on, executed, waits, cycle-ended, called, Answer, answer-of}
+use Rattle.model.specs.Log.{Answer, answer-of}
 use Rattle.model.specs.Log as Log
 use Rattle.model.specs.Calls.{Reading, sense, step, answer, delete}
 use Rattle.model.specs.Calls as Calls
-use Rattle.model.specs.Run.{Stop, at-phase-0, at-waiting, at-limit, next-refused, Run, RunOutcome, ran, run-refused, run, atom-line, all-by-id, as-text}
+use Rattle.model.specs.Run.{Run, RunOutcome, ran, run-refused, run, atom-line, all-by-id, as-text}
 use Rattle.model.specs.Run as Run
+use Rattle.model.specs.Numbers.{did-numbers, stop-number, stop-refusal}
+use Rattle.model.specs.Numbers as Numbers
 
 pub data Act : Type 0 where
   senses : List Reading → Act
@@ -44,38 +46,12 @@ pub record Left : Type 0 where
   pub config : Config
   pub answered : List ℕ
 
-unfoldable pub made-numbers : Made → List ℕ
-made-numbers nothing = 0 ∷ []
-made-numbers (an-atom n) = 1 ∷ n ∷ []
-made-numbers (a-plan n) = 2 ∷ n ∷ []
-
-unfoldable pub how-number : How → ℕ
-how-number empty = 0
-how-number held = 1
-how-number done = 2
-how-number failed = 3
-
--- 1 fired, 2 moved on, 3 executed, 4 waits, 5 cycle ended, each with its values
-unfoldable pub did-numbers : Did → List ℕ
-did-numbers (fired s n m) = 1 ∷ s ∷ n ∷ made-numbers m
-did-numbers moved-on = 2 ∷ []
-did-numbers (executed k how) = 3 ∷ k ∷ how-number how ∷ []
-did-numbers (waits k p a b) = 4 ∷ k ∷ p ∷ a ∷ b ∷ []
-did-numbers cycle-ended = 5 ∷ []
-did-numbers called = []
-
-unfoldable pub stop-numbers : Stop → List ℕ
-stop-numbers at-phase-0 = 0 ∷ []
-stop-numbers at-waiting = 1 ∷ []
-stop-numbers at-limit = 2 ∷ []
-stop-numbers (next-refused n) = 3 ∷ n ∷ []
-
 unfoldable pub after-answer : List Row → Answer → Left
 after-answer program a = record { program = program; config = a .config; answered = a .number ∷ a .made ∷ a .gone ∷ did-numbers (a .did) }
 
 unfoldable pub after-run : List Row → Config → RunOutcome → Left
 after-run program c (run-refused n) = record { program = program; config = c; answered = n ∷ 0 ∷ 0 ∷ [] }
-after-run program c (ran r) = record { program = program; config = r .config; answered = 0 ∷ r .made ∷ r .gone ∷ r .steps ∷ stop-numbers (r .stop) }
+after-run program c (ran r) = record { program = program; config = r .config; answered = 0 ∷ r .made ∷ r .gone ∷ r .steps ∷ stop-number (r .stop) ∷ stop-refusal (r .stop) }
 
 unfoldable pub rows-or-none : Loaded → List Row
 rows-or-none (loaded program) = program
@@ -132,5 +108,5 @@ withdraw p a b = record { sign = 2; p = p; a = a; b = b }
 
 -- all that a row computes with
 unfoldable pub opened : Unit {0}
-unfolding made-numbers how-number did-numbers stop-numbers after-answer after-run rows-or-none text play play-all plan-line lines-of shown key holds add withdraw Lists.opened Program.opened Configuration.opened Text.opened Load.opened Render.opened WellFormed.opened Matching.opened Log.opened Calls.opened Run.opened
+unfolding after-answer after-run rows-or-none text play play-all plan-line lines-of shown key holds add withdraw Lists.opened Program.opened Configuration.opened Text.opened Load.opened Render.opened WellFormed.opened Matching.opened Log.opened Calls.opened Run.opened Numbers.opened
 opened = tt

@@ -21,18 +21,18 @@ running =
     key "" (runs 0 ∷ []) "6 0 0\n0 0 1 0\n"
     ∷ key "" (senses [] ∷ runs 0 ∷ []) "7 0 0\n1 0 1 0\n"
     ∷ key "" (senses [] ∷ runs 10001 ∷ []) "7 0 0\n1 0 1 0\n"
-    ∷ key "" (senses [] ∷ runs 10000 ∷ []) "0 0 0 1 0\n0 1 1 0\n"
-    ∷ key "" (given (config [] [] 1 65535 1 0) ∷ runs 5 ∷ []) "0 0 0 0 3 11\n1 65535 1 0\n"
+    ∷ key "" (senses [] ∷ runs 10000 ∷ []) "0 0 0 1 1\n0 1 1 0\n"
+    ∷ key "" (given (config [] [] 1 65535 1 0) ∷ runs 5 ∷ []) "0 0 0 0 4 11\n1 65535 1 0\n"
     -- R60: after a step phase 0 is told before the limit, waiting before it, and the limit before a refusal
-    ∷ key "" (senses [] ∷ runs 1 ∷ []) "0 0 0 1 0\n0 1 1 0\n"
+    ∷ key "" (senses [] ∷ runs 1 ∷ []) "0 0 0 1 1\n0 1 1 0\n"
     ∷ key (doing "1 1 3 31 0 9 0 0\n") (given (config (atom 1 1 0 0 0 ∷ []) (plan 2 1 1 1 0 2 (1 ∷ []) (three 1 0 0) ∷ []) 2 0 3 0) ∷ runs 1 ∷ [])
-    "0 0 0 1 1\n2 0 3 2\n1 1 1 0 0 0\n2 2 1 1 1 0 2 1\n"
-    ∷ key adding (given (config [] [] 1 0 65535 0) ∷ runs 1 ∷ []) "0 1 0 1 2\n1 0 65536 0\n1 65535 2 0 0 0\n"
-    ∷ key adding (given (config [] [] 1 0 65535 0) ∷ runs 2 ∷ []) "0 1 0 1 3 8\n1 0 65536 0\n1 65535 2 0 0 0\n"
+    "0 0 0 1 2\n2 0 3 2\n1 1 1 0 0 0\n2 2 1 1 1 0 2 1\n"
+    ∷ key adding (given (config [] [] 1 0 65535 0) ∷ runs 1 ∷ []) "0 1 0 1 3\n1 0 65536 0\n1 65535 2 0 0 0\n"
+    ∷ key adding (given (config [] [] 1 0 65535 0) ∷ runs 2 ∷ []) "0 1 0 1 4 8\n1 0 65536 0\n1 65535 2 0 0 0\n"
     -- "takes steps until ..": from the middle of a cycle
-    ∷ key printed (senses (add 1 3 1200 ∷ []) ∷ runs 2 ∷ runs 10 ∷ []) "0 1 0 4 0\n0 1 4 0\n1 1 1 3 1200 0\n2 2 1 1 1 3 0 1\n1 3 3 3 1200 0\n"
-    ∷ key printed (senses (add 1 3 1200 ∷ []) ∷ runs 6 ∷ []) "0 2 0 6 0\n0 1 4 0\n1 1 1 3 1200 0\n2 2 1 1 1 3 0 1\n1 3 3 3 1200 0\n"
-    ∷ key printed (senses (add 1 3 1200 ∷ []) ∷ runs 5 ∷ []) "0 2 0 5 2\n3 0 4 0\n1 1 1 3 1200 0\n2 2 1 1 1 3 6 1\n1 3 3 3 1200 0\n"
+    ∷ key printed (senses (add 1 3 1200 ∷ []) ∷ runs 2 ∷ runs 10 ∷ []) "0 1 0 4 1\n0 1 4 0\n1 1 1 3 1200 0\n2 2 1 1 1 3 0 1\n1 3 3 3 1200 0\n"
+    ∷ key printed (senses (add 1 3 1200 ∷ []) ∷ runs 6 ∷ []) "0 2 0 6 1\n0 1 4 0\n1 1 1 3 1200 0\n2 2 1 1 1 3 0 1\n1 3 3 3 1200 0\n"
+    ∷ key printed (senses (add 1 3 1200 ∷ []) ∷ runs 5 ∷ []) "0 2 0 5 3\n3 0 4 0\n1 1 1 3 1200 0\n2 2 1 1 1 3 6 1\n1 3 3 3 1200 0\n"
     ∷ []
 
 -- 256 atoms, in this phase and with this next id
@@ -75,14 +75,14 @@ limits =
     ∷ counted (doing "1 1 3 34 -9 5 0 0\n") (full-and-due 258 ∷ steps ∷ []) "9 0 0\n2 0 258 0\n256 1\n"
     ∷ counted (doing "1 1 3 36 -9 5 0 0\n") (full-and-due 258 ∷ steps ∷ []) "9 0 0\n2 0 258 0\n256 1\n"
     ∷ counted (doing "1 1 3 36 -9 5 0 0\n") (full-and-due 65536 ∷ steps ∷ []) "8 0 0\n2 0 65536 0\n256 1\n"
-    ∷ counted (doing "1 1 3 35 2 0 0 0\n") (full-and-due 65536 ∷ steps ∷ []) "0 0 1 3 257 2\n2 0 65536 0\n255 1\n"
+    ∷ counted (doing "1 1 3 35 2 0 0 0\n") (full-and-due 65536 ∷ steps ∷ []) "0 0 1 3 257 3\n2 0 65536 0\n255 1\n"
     -- "64 plans alive and one more needed"; a place freed is used; 8 before 10
     ∷ counted (doing "") (with-plans 63 66 ∷ steps ∷ []) "0 1 0 1 1 1 2 66\n1 0 67 0\n2 64\n"
     ∷ counted (doing "") (with-plans 64 67 ∷ steps ∷ []) "10 0 0\n1 0 67 0\n2 64\n"
     ∷ counted (doing "") (with-plans 64 67 ∷ deletes 9 ∷ steps ∷ []) "0 1 0 1 1 1 2 67\n1 0 68 0\n2 64\n"
     ∷ counted (doing "") (with-plans 64 65536 ∷ steps ∷ []) "8 0 0\n1 0 65536 0\n2 64\n"
     -- a refused step ends a run, which keeps the steps before it
-    ∷ counted (doing "") (given (config (atoms-from 1 3) (plans-from 4 63) 1 0 67 0) ∷ runs 5 ∷ []) "0 1 0 1 3 10\n1 0 68 0\n3 64\n"
+    ∷ counted (doing "") (given (config (atoms-from 1 3) (plans-from 4 63) 1 0 67 0) ∷ runs 5 ∷ []) "0 1 0 1 4 10\n1 0 68 0\n3 64\n"
     ∷ []
 
 -- R61: the listing; the number of a refused load or sense; and the listing where a run stops at a step that would be refused

@@ -22,6 +22,7 @@ pub record CasesHold : Type 0 where
   pub order-of-tests : every load-holds order ≡ true
   pub query-rows : every load-holds RowCases.queries ≡ true
   pub body-rows : every load-holds RowCases.bodies ≡ true
+  pub unused-columns : every load-holds RowCases.unused ≡ true
   pub limits-of-configurations : every handed-holds FormedCases.limits ≡ true
   pub clauses-of-configurations : every handed-holds FormedCases.clauses ≡ true
   pub under-other-programs : every holds FormedCases.other-programs ≡ true

@@ -1,11 +1,10 @@
 -- keyrun, call by call.
-use mathlib.Core.Path.{_≡_, refl, sym, ap, _∙_, subst}
-use mathlib.Core.Bool.{Bool, true, and-eq-true-iff}
+use mathlib.Core.Path.{_≡_, refl, sym, ap, _∙_}
+use mathlib.Core.Bool.{Bool, true}
 use mathlib.Core.Logic.{_≢_}
 use mathlib.Core.List.{List, [], _∷_, _++_}
-use Prim.Native.Nat.{ℕ, _*_, _%_, _≤_}
+use Prim.Native.Nat.{ℕ, _*_}
 use native.Mathlib.Omega.{arith}
-use lib.Dec.{eqb}
 use lib.ListN.{length, take, drop}
 use borrow.Author.Tests.{eq-eqb, ne-eqb}
 use Rattle.lists.specs.Lists.{if_then_else_}
@@ -16,28 +15,27 @@ use Rattle.model.specs.WellFormed.{given-well}
 use Rattle.model.specs.Load.{Loaded, loaded, load}
 use Rattle.model.specs.Load as Load
 use Rattle.model.specs.Log.{Outcome, refused, accepted, Answer, answer-of}
-use Rattle.model.specs.Calls.{Reading, sense}
+use Rattle.model.specs.Calls.{sense}
 use Rattle.model.specs.Run.{Run, run-refused, ran, run, listing, refusal, after-run, after-sense, after-load, keyrun}
 use Rattle.model.specs.Claims.{to-sense, reply, work}
-use Rattle.program.specs.Rows.{rows-of, program-formed}
+use Rattle.program.specs.Rows.{rows-of}
 use Rattle.program.specs.Loading.{loading}
 use Rattle.program.specs.Loading as Loading
-use Rattle.program.proofs.Accepts.{Accepts, number-0}
-use Rattle.program_laws.proofs.Lawful.{lawful}
-use Rattle.program_laws.proofs.WellFormed.{loads-well-formed}
+use Rattle.program.proofs.Accepts.{Accepts}
 use Rattle.demands.proofs.Numbers.{Numbered, sense-numbered}
 use Rattle.demands.proofs.Runs.{ran-keeps}
 use Rattle.table.specs.Rows.{row}
 use Rattle.state.specs.declared.Config.{Config}
 use Rattle.loading.specs.declared.Started.{Started}
-use Rattle.loading.specs.Starting.{Start, started-from, starting, seen}
+use Rattle.loading.specs.Starting.{starting, seen}
 use Rattle.running.specs.Running.{stop-of}
 use Rattle.interpreter.specs.declared.Reply.{Reply}
 use Rattle.interpreter.specs.declared.RunReply.{RunReply}
 use Rattle.printed_run.specs.Printed.{reading, run-text}
-use Rattle.in_place.specs.Given.{no-row, given-rows, readings-of}
+use Rattle.in_place.specs.Given.{given-rows, readings-of}
 use Rattle.in_place.specs.Changes.{run-left-by}
 use Rattle.interpreter.specs.Calls.{conf, reported, run-reported}
+use Rattle.interpreter.proofs.Loads.{number-is, rows-held}
 
 abbrev pub probe : List ℕ
 probe = 1 ∷ 1 ∷ 3 ∷ 1200 ∷ []
@@ -52,51 +50,17 @@ shown x y out left r e f g = (f ∙ ap (λ (l : List ℕ). l ++ drop r out) (sym
 
 -- LOAD
 module _ (text lent : List ℕ) (c : Configuration.Config) (l : Started) (after : List ℕ) (e : seen l after ≡ starting text lent c) where
-  number-is : l .number ≡ loading text lent .number
-  unfolding seen starting
-  number-is = ap (λ (a : Start). a .answer .number) e
-
   pub load-refused : l .number ≢ 0 → keyrun text ≡ refusal (l .number)
   unfolding keyrun after-load loading Loading.answer-of
-  load-refused z = at (load text) refl number-is
+  load-refused z = at (load text) refl (number-is text lent c l after e)
     where
       at : (o : Loaded) → load text ≡ o → l .number ≡ Loading.answer-of lent o .number → after-load (load text) ≡ refusal (l .number)
       at (loaded rows) d f = absurd (z f)
       at (Load.refused n k) d f = ap after-load d ∙ ap refusal (sym f)
 
-  pub load-accepted : l .number ≡ 0 → Accepts text lent
-  load-accepted z = number-0 text lent (sym number-is ∙ z)
-
-  module _ (a : Accepts text lent) where
-    words-are : take (l .rows * 8) after ≡ take (loading text lent .rows * 8) (loading text lent .program)
-    unfolding seen starting
-    words-are = λ i. take (e i .answer .rows * 8) (e i .answer .program)
-
-    -- the words lent are the program's rows
-    pub rows-held : rows-of (take (l .rows * 8) after) ≡ a .rows
-    rows-held = ap rows-of words-are ∙ a .holds
-
-    pub rows-given : given-rows (take (l .rows * 8) after) ≡ a .rows
-    unfolding given-rows program-formed
-    rows-given =
-        let f = and-eq-true-iff (eqb (length (take (loading text lent .rows * 8) (loading text lent .program)) % 8) 0) _ .0 (a .formed) in
-        ap (λ (w : List ℕ). if eqb (length w % 8) 0 then rows-of w else no-row ∷ []) words-are
-        ∙ ap (λ (b : Bool). if b then rows-of (take (loading text lent .rows * 8) (loading text lent .program)) else no-row ∷ []) (f .0) ∙ a .holds
-
-    pub started-fresh : conf (l .config) ≡ fresh (a .rows)
-    unfolding seen starting started-from
-    started-fresh = ap (λ (x : Start). x .config) e ∙ ap (started-from c) (a .loads)
-
-    pub then-run : keyrun text ≡ run-text (rows-of (take (l .rows * 8) after))
-    unfolding keyrun after-load run-text
-    then-run = ap after-load (a .loads) ∙ ap run-text (sym rows-held)
-
-    few-rows : length (a .rows) ≤ 512
-    few-rows = lawful (a .rows) (loads-well-formed text (a .rows) (a .loads)) .few-rows
-
-    pub rows-fit : l .rows ≤ 512
-    unfolding seen starting
-    rows-fit = let h = few-rows in let k : l .rows ≡ length (a .rows) = ap (λ (x : Start). x .answer .rows) e ∙ a .counts in omega arith
+  pub then-run : Accepts text lent → keyrun text ≡ run-text (rows-of (take (l .rows * 8) after))
+  unfolding keyrun after-load run-text
+  then-run a = ap after-load (a .loads) ∙ ap run-text (sym (rows-held text lent c l after e a))
 
 -- SENSE
 module _ (program : List ℕ) (rows : List Row) (p : given-rows program ≡ rows) (c : Config) (f : conf c ≡ fresh rows) (r : Reply) (e : reported r ≡ reply (to-sense (given-rows program) (readings-of probe)) (conf c)) where

@@ -80,7 +80,6 @@ fn put_layout(out: &mut [u8; 4096], at: usize, layout: Layout, line: &[u8]) -> u
             let at = output::put(out, at, b"` is no integer from ");
             put_range(out, at, column)
         }
-        Layout::Other => put_plain(out, at, 2),
     }
 }
 
@@ -212,7 +211,6 @@ fn put_breach(out: &mut [u8; 4096], at: usize, breach: Breach) -> usize {
         Breach::NoConstant(column) => put_must(out, at, column, 41, b"a constant"),
         Breach::NoThreshold => put_must(out, at, 7, 40, b"a constant 1 to 65535"),
         Breach::NoCeiling => put_must(out, at, 8, 40, b"a constant 1 to 255"),
-        Breach::Other => put_plain(out, at, 3),
     }
 }
 

@@ -1,5 +1,5 @@
 -- What comes of a row, and that a row that passes leaves the scan's numbers small.
-use mathlib.Core.Path.{_≡_, refl, ap, sym, subst, _∙_}
+use mathlib.Core.Path.{_≡_, ap, sym, subst, _∙_}
 use mathlib.Core.Bool.{Bool, true, false, not, _&&_}
 use mathlib.Core.List.{List, []}
 use Prim.Native.Nat.{ℕ, _+_, _≤_}
@@ -12,6 +12,7 @@ use Rattle.model.specs.declared.Row.{Row}
 use Rattle.model.specs.declared.Scan.{Scan}
 use Rattle.model.specs.Load.{same-rule, lacking, initial, begun, with-ceiling, taken, fault, take-row, passed, at-first}
 use Rattle.program_laws.proofs.Accepted.{passes}
+use Rattle.program_laws.proofs.Places.{count-begun}
 use Rattle.rows.specs.declared.RuleScan.{RuleScan}
 use Rattle.rows.specs.Scanning.{whole, Small, verdict-of}
 
@@ -42,10 +43,6 @@ module _ (r : Row) where
       one-more true n h = omega arith
       one-more false n h = omega arith
 
-  count-begun : (s : Scan) → begun s r .count ≡ s .count
-  unfolding begun
-  count-begun s = if-either (λ (t : Scan). t .count ≡ s .count) (same-rule s r) refl refl
-
   -- a row that passes: there was room for it, it counts, and one more fits
   pub record Counted (s t : Scan) : Type 0 where
     pub room : s .count ≤ 511
@@ -57,7 +54,7 @@ module _ (r : Row) where
   passed-counts {s} t w e =
       let p = passes s r t e in
       let a = p .accepted in
-      let n = count-begun s in
+      let n = count-begun s r in
       let c = a .count-small in
       record {
         room = c;

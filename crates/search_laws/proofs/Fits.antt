@@ -1,8 +1,8 @@
 -- One row: what the search tries of it is what the relation says.
 use mathlib.Core.Path.{_≡_, refl, sym, _∙_, subst}
 use mathlib.Core.Bool.{Bool, true, false, and-eq-true-iff}
-use mathlib.Core.Logic.{⊎-elim}
-use mathlib.Core.List.{List, [], _∷_}
+use mathlib.Core.Logic.{inl, inr, ⊎-elim}
+use mathlib.Core.List.{List, [], _∷_, _++_}
 use Prim.Native.Nat.{ℕ, _<_}
 use native.Mathlib.Omega.{arith}
 use lib.Dec.{eqb, leb}
@@ -15,7 +15,8 @@ use Rattle.model.specs.declared.Row.{Row}
 use Rattle.model.specs.Program.{any?, variable?, constant?, constant}
 use Rattle.model.specs.Configuration.{Config, no-value, place, value-of}
 use Rattle.model.specs.Matching.{Candidate, candidates, meet, fit, Found, found, query-row}
-use Rattle.model.specs.Meaning.{Meets, by-any, by-constant, by-taking, by-value, Fits, NoneFits, Takes}
+use Rattle.model.specs.Meaning.{Meets, by-any, by-constant, by-taking, by-value, Fits, NoneFits, Notes, Takes}
+use Rattle.search_laws.proofs.Shown.{shown, in-shown}
 
 -- a test that is false, as the other operand's kinds
 not-kinds : (x : ℕ) → any? x ≡ false → constant? x ≡ false → variable? x ≡ true
@@ -98,9 +99,23 @@ module _ (r : Row) (k : Candidate) (v : List ℕ) where
   in-fits w f = in-bind _ (in-meets (r .i) (k .i) v (f .after-i) (f .meets-i)) (in-bind _ (in-meets (r .a) (k .a) (f .after-i) (f .after-a) (f .meets-a)) (in-meets (r .b) (k .b) (f .after-a) w (f .meets-b)))
 
 module _ (c : Config) (r : Row) (f : Found) where
+  -- a reason notes its id, and no other row notes one
+  noted : (k : Candidate) (w : List ℕ) → Notes r (k .i) (f .matched) (found r k f w .matched)
+  unfolding found
+  noted k w = at (eqb (r .part) 1) refl
+    where
+      at : (b : Bool) → eqb (r .part) 1 ≡ b → Notes r (k .i) (f .matched) (if b then f .matched ++ (k .i ∷ []) else f .matched)
+      at true e = inl (eqb-true (r .part) 1 e, refl)
+      at false e = inr (eqb-false (r .part) 1 e, refl)
+
+  pub is-found : (k : Candidate) (g : Found) → Notes r (k .i) (f .matched) (g .matched) → g ≡ found r k f (g .values)
+  unfolding found
+  is-found k g (inl (e, m)) = rw (eq-eqb (r .part) 1 e) (λ i. record { values = g .values; matched = m i })
+  is-found k g (inr (e, m)) = rw (ne-eqb (r .part) 1 e) (λ i. record { values = g .values; matched = m i })
+
   pub takes : (k : Candidate) → In k (candidates c r) → (w : List ℕ) → Fits r k (f .values) w → Takes c r k f (found r k f w)
   unfolding found
-  takes k i w h = record { among = i; fits = h; notes = refl }
+  takes k i w h = record { among = shown c r k i; fits = h; notes = noted k w }
 
   pub takes-in : (g : Found) → In g (query-row c r f) → (k : Candidate) × Takes c r k f g
   unfolding query-row
@@ -111,7 +126,7 @@ module _ (c : Config) (r : Row) (f : Found) where
 
   pub in-takes : (k : Candidate) (g : Found) → Takes c r k f g → In g (query-row c r f)
   unfolding query-row
-  in-takes k g t = in-bind _ (t .among) (in-cast (t .notes) (in-map (found r k f) (in-fits r k (f .values) (g .values) (t .fits))))
+  in-takes k g t = in-bind _ (in-shown c r k (t .among)) (in-cast (is-found k g (t .notes)) (in-map (found r k f) (in-fits r k (f .values) (g .values) (t .fits))))
 
   -- the query has no answer exactly where no candidate fits
   pub none-empty : NoneFits c r (f .values) → is-empty (query-row c r f) ≡ true
@@ -122,7 +137,7 @@ module _ (c : Config) (r : Row) (f : Found) where
       empty-when (g ∷ l) h = absurd (h g (first refl))
 
   pub empty-none : is-empty (query-row c r f) ≡ true → NoneFits c r (f .values)
-  empty-none e k i w h = no (query-row c r f) e (in-takes k (found r k f w) (takes k i w h))
+  empty-none e k i w h = no (query-row c r f) e (in-takes k (found r k f w) (takes k (in-shown c r k i) w h))
     where
       no : {g : Found} (l : List Found) → is-empty l ≡ true → In g l → ⊥
       no [] e i = in-nil i

@@ -1,4 +1,6 @@
+pub mod Shown
 pub mod Fits
 pub mod Search
 pub mod Order
+pub mod Counting
 pub mod Exact

@@ -10,7 +10,8 @@ use Rattle.model.specs.declared.Row.{Row}
 use Rattle.model.specs.Configuration.{Config}
 use Rattle.model.specs.Matching.{Candidate, candidates, fit, Found, found, query-row, after-row, negation, matches}
 use Rattle.model.specs.Meaning.{Takes, Solves, Earlier, NotAfter}
-use Rattle.search_laws.proofs.Fits.{fits-in, in-fits, takes, takes-in, in-takes, none-empty, empty-none, Short, empty, single, short-fit}
+use Rattle.search_laws.proofs.Shown.{in-shown}
+use Rattle.search_laws.proofs.Fits.{fits-in, in-fits, is-found, takes, takes-in, in-takes, none-empty, empty-none, Short, empty, single, short-fit}
 
 -- what a row gives, by its kind
 negated : (c : Config) (r : Row) (f : Found) → negation r ≡ true → after-row c r f ≡ when (is-empty (query-row c r f)) f
@@ -76,7 +77,7 @@ module _ (c : Config) (p : Found → Bool) where
     from cs = keep p (bind (bind cs answers) (matches c rs))
 
     answer-in : (k : Candidate) (u : Found) → Takes c r k f u → In u (answers k)
-    answer-in k u t = in-cast (t .notes) (in-map (found r k f) (in-fits r k (f .values) (u .values) (t .fits)))
+    answer-in k u t = in-cast (is-found c r f k u (t .notes)) (in-map (found r k f) (in-fits r k (f .values) (u .values) (t .fits)))
 
     answer-takes : (k : Candidate) → In k (candidates c r) → (u : Found) → In u (answers k) → Takes c r k f u
     answer-takes k i u j = let y = map-in (found r k f) (fit r k (f .values)) j in subst (Takes c r k f) (sym (y .2)) (takes c r f k i (y .0) (fits-in r k (f .values) (y .0) (y .1)))
@@ -164,4 +165,4 @@ module _ (c : Config) (p : Found → Bool) where
       open-row q a = (a .k ∷ a .ks, inr (q, (a .k, a .h, a .ks, refl, a .taken, a .solves)), λ ls h s t. ⊎-elim (λ u. clash (u .0) q) (λ u. after ls h t (u .1)) s)
         where
           after : (ls : List Candidate) (w : Found) → p w ≡ true → (k : Candidate) × (h : Found) × (ms : List Candidate) × (ls ≡ k ∷ ms) × Takes c r k f h × Solves c rs h ms w → NotAfter (a .k ∷ a .ks) ls
-          after ls w t (k, h, ms, e, y, s) = subst (NotAfter (a .k ∷ a .ks)) (sym e) (a .least k (y .among) h ms w y s t)
+          after ls w t (k, h, ms, e, y, s) = subst (NotAfter (a .k ∷ a .ks)) (sym e) (a .least k (in-shown c r k (y .among)) h ms w y s t)

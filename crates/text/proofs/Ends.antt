@@ -85,6 +85,32 @@ module _ (text : List ℕ) (from : ℕ) where
           no-end = λ k m. w .so-far ∙ rw (lines-end text i h) (onto-end (take (i - from) (drop from text)) (rw (length-take, length-drop) (omega arith)));
         }
 
+-- byte 10 stands where a line ends
+ended-by : (cs l : List ℕ) (ls : Lines) → lines cs ≡ line l ls → getD cs (length l) 0 ≡ 10
+unfolding lines onto
+ended-by [] l ls e = let z : _≡_ {A = ℕ} 0 1 = cc in absurd (omega arith)
+ended-by (c ∷ cs) l ls e = go (eqb c 10) refl (lines cs) refl (ended-by cs)
+  where
+    go : (b : Bool) → eqb c 10 ≡ b → (ks : Lines) → lines cs ≡ ks → ((m : List ℕ) (ms : Lines) → lines cs ≡ line m ms → getD cs (length m) 0 ≡ 10)
+        → getD (c ∷ cs) (length l) 0 ≡ 10
+    go true t ks q ih =
+        let f : line [] (lines cs) ≡ line l ls = rw t at e in
+        let n : [] ≡ l = cc in
+        rw (← n) (eqb-true c 10 t)
+    go false t end q ih = let f : unended ≡ line l ls = rw (t, q) at e in let z : _≡_ {A = ℕ} 0 1 = cc in absurd (omega arith)
+    go false t unended q ih = let f : unended ≡ line l ls = rw (t, q) at e in let z : _≡_ {A = ℕ} 0 1 = cc in absurd (omega arith)
+    go false t (line m ms) q ih =
+        let f : line (c ∷ m) ms ≡ line l ls = rw (t, q) at e in
+        let n : c ∷ m ≡ l = cc in
+        rw (← n) (ih m ms q)
+
+pub newline-at : {text : List ℕ} {from r : ℕ} → Ends text from r → r < length text → getD text r 0 ≡ 10
+newline-at {text} {from} {r} w h =
+    let l = w .low in
+    let n : length (take (r - from) (drop from text)) ≡ r - from = rw (length-take, length-drop) (omega arith) in
+    let q : from + (r - from) ≡ r = omega arith in
+    (rw (n, getD-drop, q) at (ended-by (drop from text) _ _ (w .ended h)))
+
 -- the names line, up to i
 pub record Matching (given meant : List ℕ) (i : ℕ) : Type 0 where
   pub few : i ≤ 24

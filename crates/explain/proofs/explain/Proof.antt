@@ -1,30 +1,21 @@
+-- The load comes to the place where the loop stands (`Standing`). The measure is what is left of the text.
 use mathlib.Core.Path.{_≡_, refl, sym, ap, _∙_, subst}
 use Prim.Native.Nat.{_-_}
 use native.Mathlib.Omega.{arith}
 use lib.ListN.{length}
 use lib.Seq.{length-take-le}
 use borrow.Author.Needs.{needs}
-use Rattle.explain.proofs.Comings.{Standing, names-missing, names-wrong, standing-first, told-lacking, told-loads, told-unended, told-misread, row-range, told-row, row-taken}
+use Rattle.explain.proofs.Comings.{Standing, names-missing, names-wrong, standing-first, told-lacking, told-loads, told-unended, told-misread, told-row, row-taken, unread-line, whole-line, row-range}
+use Rattle.explain.proofs.Verdicts.{refused-with}
 use Rattle.model.specs.declared.Scan.{Scan}
 use Rattle.model.specs.Load.{lacking, take-row}
 use Rattle.rows.specs.Scanning.{whole as scanned, Small}
 use Rattle.causes.specs.Causes.{Lacks}
+use Rattle.causes.specs.Checking.{InSetZero}
+use Rattle.program_laws.proofs.Places.{comes-set-0}
 use Rattle.explain.specs.Explaining.{OfRow}
-use Rattle.explain.proofs.Verdicts.{refused-with}
 use Rattle.explain.proofs.explain.Statement.{statement}
 use Rattle.explain.proofs.explain.Tie as tie
-use Rattle.explain.proofs.explain.Reads as reads
-use Rattle.explain.proofs.explain.Lts as lts
-use Rattle.causes.proofs.lack_of.Reads as lack-of-reads
-use Rattle.explain.proofs.layout_of.Reads as layout-of-reads
-use Rattle.explain.proofs.of_row.Reads as of-row-reads
-use Rattle.explain.proofs.whole.Reads as whole-reads
-use Rattle.rows.proofs.at_first.Reads as at-first-reads
-use Rattle.rows.proofs.lacking.Reads as lacking-reads
-use Rattle.rows.proofs.take_row.Reads as take-row-reads
-use Rattle.text.proofs.is_names.Reads as is-names-reads
-use Rattle.text.proofs.newline.Reads as newline-reads
-use Rattle.text.proofs.read_row.Reads as read-row-reads
 
 abbrev Inv-loop : tie.InvT-loop
 Inv-loop text first s₀ ceilings₀ at₀ s ceilings at = Standing text (scanned s ceilings) at × (length ceilings ≡ 256)
@@ -32,141 +23,134 @@ Inv-loop text first s₀ ceilings₀ at₀ s ceilings at = Standing text (scanne
 abbrev μ-loop : tie.MeasureT-loop
 μ-loop text first s₀ ceilings₀ at₀ s ceilings at = length text - at
 
--- src/lib.rt:139:9
-newline-requires : tie.Need-newline-requires Inv-loop μ-loop
-newline-requires c κs = search needs
-
--- src/lib.rt:141:9
+-- the names line
 returns : tie.Need-returns Inv-loop μ-loop
 returns c = names-missing _ (c .before .newline .ensures) (c .if1 .taken)
 
--- src/lib.rt:147:24
 slice-aggregate-is-names : tie.Need-slice-aggregate-is-names Inv-loop μ-loop
 slice-aggregate-is-names c = sym (length-take-le _ _ (c .before .before .newline .ensures .high))
 
--- src/lib.rt:147:9
-is-names-requires : tie.Need-is-names-requires Inv-loop μ-loop
-is-names-requires c κs = search needs
-
--- src/lib.rt:148:9
 returns-2 : tie.Need-returns-2 Inv-loop μ-loop
-returns-2 c = names-wrong _ (c .before .before .before .before .newline .ensures) (c .before .before .before .if1 .left) (c .before .is-names .ensures) (c .if2 .taken)
+returns-2 c =
+    let long = c .before .before .before in
+    names-wrong _ (long .before .newline .ensures) (long .if1 .left) (c .before .is-names .ensures) (c .if2 .taken)
 
--- src/lib.rt:154:9
-at-first-requires : tie.Need-at-first-requires Inv-loop μ-loop
-at-first-requires c κs = search needs
-
--- src/lib.rt:156:18
-add-at : tie.Need-add-at Inv-loop μ-loop
-add-at c = search needs
-
--- src/lib.rt:157:5
 loop-holds : tie.Need-loop-holds Inv-loop μ-loop
-loop-holds c = (standing-first _ (c .before .before .before .before .before .newline .ensures) _ (c .before .before .before .before .if1 .left) (c .before .before .is-names .ensures) (c .before .if2 .left) (c .at-first .ensures), refl)
+loop-holds c =
+    let named = c .before in
+    let long = named .before .before .before in
+    (standing-first _ (long .before .newline .ensures) _ (long .if1 .left) (named .before .is-names .ensures) (named .if2 .left) (c .at-first .ensures), refl)
 
--- src/lib.rt:158:13
-newline-requires-2 : tie.Need-newline-requires-2 Inv-loop μ-loop
-newline-requires-2 c κs = search needs
+-- a line that is not ended
+add-t24 : tie.Need-add-t24 Inv-loop μ-loop
+add-t24 c = omega (arith, c .before .before .before .before .loop .inv .0 .small .count)
 
--- src/lib.rt:160:13
 returns-3 : tie.Need-returns-3 Inv-loop μ-loop
-returns-3 c = told-unended (c .before .before .before .loop .inv .0) (c .before .before .loop-test .taken) (c .before .newline2 .ensures) (c .if3 .taken)
+returns-3 c =
+    let ended = c .before .before in
+    let entry = ended .before in
+    told-unended (entry .before .loop .inv .0) (entry .loop-test .taken) (ended .newline2 .ensures) (c .before .if3 .taken)
 
--- src/lib.rt:166:47
-sub-read-row : tie.Need-sub-read-row Inv-loop μ-loop
-sub-read-row c = search needs
-
--- src/lib.rt:166:47
-part-read-row-start : tie.Need-part-read-row-start Inv-loop μ-loop
-part-read-row-start c = search needs
-
--- src/lib.rt:166:47
-part-read-row-end : tie.Need-part-read-row-end Inv-loop μ-loop
-part-read-row-end c = search needs
-
--- src/lib.rt:166:32
-read-row-requires : tie.Need-read-row-requires Inv-loop μ-loop
-read-row-requires c κs = search needs
-
--- src/lib.rt:166:25
-enum-known-row : tie.Need-enum-known-row Inv-loop μ-loop
-enum-known-row c = search needs
-
--- src/lib.rt:168:48
-enum-told : tie.Need-enum-told Inv-loop μ-loop
-enum-told c = search needs
-
--- src/lib.rt:168:48
-sub-layout-of : tie.Need-sub-layout-of Inv-loop μ-loop
-sub-layout-of c = search needs
-
--- src/lib.rt:168:48
-part-layout-of-start : tie.Need-part-layout-of-start Inv-loop μ-loop
-part-layout-of-start c = search needs
-
--- src/lib.rt:168:48
-part-layout-of-end : tie.Need-part-layout-of-end Inv-loop μ-loop
-part-layout-of-end c = search needs
-
--- src/lib.rt:168:38
+-- a line that does not read
 layout-of-requires : tie.Need-layout-of-requires Inv-loop μ-loop
-layout-of-requires c κs = search needs
+layout-of-requires c κs = unread-line _ (sym (c .before .enum-told .given .1) ∙ c .before .before .before .read-row .ensures)
 
--- src/lib.rt:167:13
+add-t35 : tie.Need-add-t35 Inv-loop μ-loop
+add-t35 c =
+    let entry = c .before .before .before .before .before .before .before .before .before in
+    omega (arith, entry .before .loop .inv .0 .small .count)
+
 returns-4 : tie.Need-returns-4 Inv-loop μ-loop
-returns-4 c = told-misread (c .before .before .before .before .before .before .before .before .before .loop .inv .0) (c .before .before .before .before .before .before .before .before .loop-test .taken) (c .before .before .before .before .before .before .before .newline2 .ensures) (c .before .before .before .before .before .before .if3 .left) _ (sym (c .before .before .enum-told .given .1) ∙ c .before .before .before .before .read-row .ensures) (c .layout-of .ensures)
+returns-4 c =
+    let told = c .before .before .before in
+    let called = told .before .before in
+    let whole = called .before .before in
+    let ended = whole .before in
+    let entry = ended .before in
+    let unread = unread-line _ (sym (told .enum-told .given .1) ∙ called .read-row .ensures) in
+    told-misread (entry .before .loop .inv .0) (entry .loop-test .taken) (ended .newline2 .ensures) (whole .if3 .left) unread (c .before .layout-of .ensures)
 
--- src/lib.rt:173:13
-whole-requires : tie.Need-whole-requires Inv-loop μ-loop
-whole-requires c κs = search needs
-
--- src/lib.rt:174:35
+-- a row
 slice-aggregate-take-row : tie.Need-slice-aggregate-take-row Inv-loop μ-loop
-slice-aggregate-take-row c = sym (c .before .before .before .before .before .before .before .before .before .before .loop .inv .1)
+slice-aggregate-take-row c =
+    let entry = c .before .before .before .before .before .before .before .before .before in
+    sym (entry .before .loop .inv .1)
 
--- src/lib.rt:174:13
 take-row-requires : tie.Need-take-row-requires Inv-loop μ-loop
-take-row-requires c κs = (c .before .before .before .before .before .before .before .before .before .before .loop .inv .0 .small, c .before .before .before .before .before .before .before .before .before .before .loop .inv .1, row-range (c .before .before .before .before .before .before .before .before .before .before .loop .inv .0) (c .before .before .before .before .before .before .before .before .before .loop-test .taken) (c .before .before .before .before .before .before .before .before .newline2 .ensures) (c .before .before .before .before .before .before .before .if3 .left) (sym (c .before .before .before .row .given .1) ∙ c .before .before .before .before .before .read-row .ensures) .p)
+take-row-requires c κs =
+    let found = c .before .before .before in
+    let called = found .before .before in
+    let turn = called .before .before .before .before .before .loop in
+    (turn .inv .0 .small, turn .inv .1, row-range _ (whole-line _ (sym (found .row .given .1) ∙ called .read-row .ensures)) .p)
 
--- src/lib.rt:177:24
 of-row-requires : tie.Need-of-row-requires Inv-loop μ-loop
-of-row-requires c κs = (subst Small (sym (c .before .before .before .before .before .whole .ensures)) (c .before .before .before .before .before .before .before .before .before .before .before .before .before .before .loop .inv .0 .small), (row-range (c .before .before .before .before .before .before .before .before .before .before .before .before .before .before .loop .inv .0) (c .before .before .before .before .before .before .before .before .before .before .before .before .before .loop-test .taken) (c .before .before .before .before .before .before .before .before .before .before .before .before .newline2 .ensures) (c .before .before .before .before .before .before .before .before .before .before .before .if3 .left) (sym (c .before .before .before .before .before .before .before .row .given .1) ∙ c .before .before .before .before .before .before .before .before .before .read-row .ensures) .p, ((refused-with (c .before .before .before .take-row .result) _ _ (c .if4 .taken) ∙ c .before .before .before .take-row .ensures ∙ ap (λ (x : Scan). take-row x (c .before .before .before .before .before .before .before .row .given .0 .0)) (sym (c .before .before .before .before .before .whole .ensures)), c .if4 .taken), c .before .before .before .before .before .whole .ensures ∙ ap (λ (x : Scan). scanned (c .before .before .before .before .before .before .before .before .before .before .before .before .before .before .loop .s) (x .ceilings)) (sym (c .before .before .before .before .before .whole .ensures)))))
+of-row-requires c κs =
+    let judged = c .before .before .before in
+    let built = judged .before .before in
+    let found = built .before .before in
+    let called = found .before .before in
+    let turn = called .before .before .before .before .before .loop in
+    let row = found .row .given .0 .0 in
+    let same = built .whole .ensures in
+    (subst Small (sym same) (turn .inv .0 .small), (subst InSetZero (sym same) (comes-set-0 (turn .inv .0 .comes)), (row-range _ (whole-line _ (sym (found .row .given .1) ∙ called .read-row .ensures)) .p, ((refused-with (judged .take-row .result) _ _ (c .if4 .taken) ∙ judged .take-row .ensures ∙ ap (λ (x : Scan). take-row x row) (sym same), c .if4 .taken), same ∙ ap (λ (x : Scan). scanned (turn .s) (x .ceilings)) (sym same)))))
 
--- src/lib.rt:176:13
 returns-5 : tie.Need-returns-5 Inv-loop μ-loop
-returns-5 c = told-row (c .before .before .before .before .before .before .before .before .before .before .before .before .before .before .before .loop .inv .0) (c .before .before .before .before .before .before .before .before .before .before .before .before .before .before .loop-test .taken) (c .before .before .before .before .before .before .before .before .before .before .before .before .before .newline2 .ensures) (c .before .before .before .before .before .before .before .before .before .before .before .before .if3 .left) (sym (c .before .before .before .before .before .before .before .before .row .given .1) ∙ c .before .before .before .before .before .before .before .before .before .before .read-row .ensures) _ (subst (λ (x : Scan). OfRow x (c .before .before .before .before .before .before .before .before .row .given .0 .0) (c .of-row .result)) (c .before .before .before .before .before .before .whole .ensures) (c .of-row .ensures))
+returns-5 c =
+    let judged = c .before .before .before .before in
+    let built = judged .before .before in
+    let found = built .before .before in
+    let called = found .before .before in
+    let whole = called .before .before in
+    let ended = whole .before in
+    let entry = ended .before in
+    let read = whole-line _ (sym (found .row .given .1) ∙ called .read-row .ensures) in
+    let cause = subst (λ (x : Scan). OfRow x (found .row .given .0 .0) (c .of-row .result)) (built .whole .ensures) (c .of-row .ensures) in
+    told-row (entry .before .loop .inv .0) (entry .loop-test .taken) (ended .newline2 .ensures) (whole .if3 .left) read _ _ (judged .take-row .ensures) _ (c .before .if4 .taken) cause
 
--- src/lib.rt:184:14
 add-at-2 : tie.Need-add-at-2 Inv-loop μ-loop
-add-at-2 c = omega (arith, c .before .before .before .before .before .before .before .before .before .before .before .before .before .before .before .before .before .before .before .before .before .before .before .good .0, c .before .before .before .before .before .before .before .before .before .before .before .before .if3 .left)
+add-at-2 c =
+    let whole = c .before .before .before .before .before .before .before .before .before .before .before .before in
+    let start = whole .before .before .before .before .before .before .before .before .before .before .before in
+    omega (arith, start .good .0, whole .if3 .left)
 
--- src/lib.rt:157:5
 loop-less : tie.Need-loop-less Inv-loop μ-loop
-loop-less c = omega (arith, c .before .before .before .before .before .before .before .before .before .before .before .before .before .newline2 .ensures, c .before .before .before .before .before .before .before .before .before .before .before .before .before .before .loop-test .taken, c .before .before .before .before .before .before .before .before .before .before .before .before .if3 .left)
+loop-less c =
+    let whole = c .before .before .before .before .before .before .before .before .before .before .before .before in
+    let entry = whole .before .before in
+    omega (arith, whole .before .newline2 .ensures, entry .loop-test .taken, whole .if3 .left)
 
--- src/lib.rt:157:5
 loop-again : tie.Need-loop-again Inv-loop μ-loop
-loop-again c = (row-taken (c .before .before .before .before .before .before .before .before .before .before .before .before .before .before .before .loop .inv .0) (c .before .before .before .before .before .before .before .before .before .before .before .before .before .before .loop-test .taken) (c .before .before .before .before .before .before .before .before .before .before .before .before .before .newline2 .ensures) (c .before .before .before .before .before .before .before .before .before .before .before .before .if3 .left) (sym (c .before .before .before .before .before .before .before .before .row .given .1) ∙ c .before .before .before .before .before .before .before .before .before .before .read-row .ensures) _ _ (c .before .before .before .before .take-row .ensures) (c .before .if4 .left), c .before .before .before .before .take-row .kept .1 .0 ∙ c .before .before .before .before .before .before .before .before .before .before .before .before .before .before .before .loop .inv .1)
+loop-again c =
+    let judged = c .before .before .before .before in
+    let found = judged .before .before .before .before in
+    let called = found .before .before in
+    let whole = called .before .before in
+    let ended = whole .before in
+    let entry = ended .before in
+    let turn = entry .before .loop in
+    let read = whole-line _ (sym (found .row .given .1) ∙ called .read-row .ensures) in
+    (row-taken (turn .inv .0) (entry .loop-test .taken) (ended .newline2 .ensures) (whole .if3 .left) read _ _ (judged .take-row .ensures) (c .before .if4 .left), judged .take-row .kept .1 .0 ∙ turn .inv .1)
 
--- src/lib.rt:186:8
-lacking-requires : tie.Need-lacking-requires Inv-loop μ-loop
-lacking-requires c κs = search needs
-
--- src/lib.rt:188:48
-whole-requires-2 : tie.Need-whole-requires-2 Inv-loop μ-loop
-whole-requires-2 c κs = search needs
-
--- src/lib.rt:188:32
+-- the end of the text
 lack-of-requires : tie.Need-lack-of-requires Inv-loop μ-loop
 lack-of-requires c κs = ap lacking (c .whole2 .ensures) ∙ sym (c .before .before .lacking .ensures) ∙ c .before .if5 .taken
 
--- src/lib.rt:187:9
-returns-6 : tie.Need-returns-6 Inv-loop μ-loop
-returns-6 c = told-lacking (c .before .before .before .before .before .loop .inv .0) _ (c .before .before .before .before .loop-test .left) (subst (λ (x : Scan). Lacks x (c .lack-of .result)) (c .before .whole2 .ensures) (c .lack-of .ensures))
+add-t45 : tie.Need-add-t45 Inv-loop μ-loop
+add-t45 c = omega (arith, c .before .before .before .before .before .before .loop .inv .0 .small .count)
 
--- src/lib.rt:136:1
+returns-6 : tie.Need-returns-6 Inv-loop μ-loop
+returns-6 c =
+    let named = c .before in
+    let built = named .before in
+    let tested = built .before .before in
+    let entry = tested .before in
+    let lacks = subst (λ (x : Scan). Lacks x (named .lack-of .result)) (built .whole2 .ensures) (named .lack-of .ensures) in
+    told-lacking (entry .before .loop .inv .0) (entry .loop-test .left) (sym (tested .lacking .ensures) ∙ built .before .if5 .taken) lacks
+
 returns-7 : tie.Need-returns-7 Inv-loop μ-loop
-returns-7 c = told-loads (c .before .before .before .loop .inv .0) (c .before .before .loop-test .left) (c .before .lacking .ensures) (c .if5 .left)
+returns-7 c =
+    let entry = c .before .before in
+    told-loads (entry .before .loop .inv .0) (entry .loop-test .left) (sym (c .before .lacking .ensures) ∙ c .if5 .left)
 
 pub explain-spec : {M : Type 1} → statement M
 explain-spec =
@@ -174,28 +158,30 @@ explain-spec =
     (tie.spec
     Inv-loop
     μ-loop
-    newline-requires
+    (λ c κs. search needs)
     returns
     slice-aggregate-is-names
-    is-names-requires
+    (λ c κs. search needs)
     returns-2
-    at-first-requires
-    add-at
+    (λ c κs. search needs)
+    (λ c. search needs)
     loop-holds
-    newline-requires-2
+    (λ c κs. search needs)
+    add-t24
     returns-3
-    sub-read-row
-    part-read-row-start
-    part-read-row-end
-    read-row-requires
-    enum-known-row
-    enum-told
-    sub-layout-of
-    part-layout-of-start
-    part-layout-of-end
+    (λ c. search needs)
+    (λ c. search needs)
+    (λ c. search needs)
+    (λ c κs. search needs)
+    (λ c. search needs)
+    (λ c. search needs)
+    (λ c. search needs)
+    (λ c. search needs)
+    (λ c. search needs)
     layout-of-requires
+    add-t35
     returns-4
-    whole-requires
+    (λ c κs. search needs)
     slice-aggregate-take-row
     take-row-requires
     of-row-requires
@@ -203,8 +189,9 @@ explain-spec =
     add-at-2
     loop-less
     loop-again
-    lacking-requires
-    whole-requires-2
+    (λ c κs. search needs)
+    (λ c κs. search needs)
     lack-of-requires
+    add-t45
     returns-6
     returns-7)

@@ -1,76 +1,79 @@
--- The columns so far read as integers with a space behind each. The measure is how many columns are left.
+-- The columns so far read as integers in range with a space behind each (`Before`). The measure is how many columns are left. A line
+-- that ended with column 8 would read as a row.
 use mathlib.Core.Path.{sym, _∙_}
 use Prim.Native.Nat.{_-_}
 use borrow.Author.Needs.{needs}
-use Rattle.explain.specs.Explaining.{Begins, first, next, few, long, cut, doubled, unread, far, more, other}
+use Rattle.explain.specs.Explaining.{at-column, cut, doubled, unread, far, more, few}
+use Rattle.explain.proofs.Layouts.{Before, before-first, before-next, few-columns, ninth}
 use Rattle.explain.proofs.layout_of.Statement.{statement}
 use Rattle.explain.proofs.layout_of.Tie as tie
 
 abbrev Inv-loop : tie.InvT-loop
-Inv-loop line at₀ column₀ at column = Begins line column at
+Inv-loop line at₀ column₀ at column = Before line column at
 
 abbrev μ-loop : tie.MeasureT-loop
 μ-loop line at₀ column₀ at column = 9 - column
 
-loop-holds : tie.Need-loop-holds Inv-loop μ-loop
-loop-holds c = first
-
+-- the columns end, or one is empty
 returns : tie.Need-returns Inv-loop μ-loop
-returns c = cut (c .before .before .loop .inv) (c .if1 .taken)
-
-shared-slice-read-if2 : tie.Need-shared-slice-read-if2 Inv-loop μ-loop
-shared-slice-read-if2 c = search needs
+returns c = at-column (c .before .loop-test .taken) (c .before .before .loop .inv .begins) (cut (c .if1 .taken))
 
 returns-2 : tie.Need-returns-2 Inv-loop μ-loop
-returns-2 c = doubled (c .before .before .before .before .loop .inv) (c .if2 .taken)
+returns-2 c =
+    let entry = c .before .before .before in
+    at-column (entry .loop-test .taken) (entry .before .loop .inv .begins) (doubled (c .if2 .taken))
 
-word-end-requires : tie.Need-word-end-requires Inv-loop μ-loop
-word-end-requires c κs = search needs
-
-read-int-requires : tie.Need-read-int-requires Inv-loop μ-loop
-read-int-requires c κs = search needs
-
-enum-known-x : tie.Need-enum-known-x Inv-loop μ-loop
-enum-known-x c = search needs
-
-enum-told : tie.Need-enum-told Inv-loop μ-loop
-enum-told c = search needs
-
+-- no integer, or one out of range
 returns-3 : tie.Need-returns-3 Inv-loop μ-loop
-returns-3 c = unread (c .before .before .before .before .before .before .before .before .loop .inv) (sym (sym (c .enum-told .given .1) ∙ c .before .before .read-int .ensures)) (c .before .before .before .word-end .ensures)
-
-outside-requires : tie.Need-outside-requires Inv-loop μ-loop
-outside-requires c κs = search needs
+returns-3 c =
+    let called = c .before .before in
+    let filled = called .before .before in
+    let entry = filled .before .before .before in
+    let none = sym (sym (c .enum-told .given .1) ∙ called .read-int .ensures) in
+    at-column (entry .loop-test .taken) (entry .before .loop .inv .begins) (unread (filled .before .before .if1 .left) (filled .if2 .left) none (called .before .word-end .ensures))
 
 returns-4 : tie.Need-returns-4 Inv-loop μ-loop
-returns-4 c = far (c .before .before .before .before .before .before .before .before .before .before .before .loop .inv) (sym (sym (c .before .before .before .x .given .1) ∙ c .before .before .before .before .before .read-int .ensures)) (sym (c .before .outside .ensures) ∙ c .if3 .taken) (c .before .before .before .before .before .before .word-end .ensures)
+returns-4 c =
+    let found = c .before .before .before in
+    let called = found .before .before in
+    let entry = called .before .before .before .before .before in
+    let number = sym (sym (found .x .given .1) ∙ called .read-int .ensures) in
+    at-column (entry .loop-test .taken) (entry .before .loop .inv .begins) (far number (sym (c .before .outside .ensures) ∙ c .if3 .taken) (called .before .word-end .ensures))
 
+-- too few columns
 returns-5 : tie.Need-returns-5 Inv-loop μ-loop
-returns-5 c = few (c .if5 .taken) (c .before .before .before .before .before .before .before .before .before .before .before .before .before .loop .inv) (sym (sym (c .before .before .before .before .before .x .given .1) ∙ c .before .before .before .before .before .before .before .read-int .ensures)) (c .before .if4 .taken)
+returns-5 c =
+    let found = c .before .before .before .before in
+    let called = found .before .before in
+    let entry = called .before .before .before .before .before in
+    let turn = entry .before .loop in
+    let start = entry .before .before .before in
+    let number = sym (sym (found .x .given .1) ∙ called .read-int .ensures) in
+    let inside = sym (c .before .before .outside .ensures) ∙ c .before .if3 .left in
+    let less = few-columns (turn .inv) (entry .loop-test .taken) number inside (c .if4 .taken) (start .pre) in
+    at-column (entry .loop-test .taken) (turn .inv .begins) (few less number inside (c .if4 .taken))
 
+-- more than an integer
 returns-6 : tie.Need-returns-6 Inv-loop μ-loop
-returns-6 c = other
-
-shared-slice-read-if6 : tie.Need-shared-slice-read-if6 Inv-loop μ-loop
-shared-slice-read-if6 c = search needs
-
-returns-7 : tie.Need-returns-7 Inv-loop μ-loop
-returns-7 c = more (c .before .before .before .before .before .before .before .before .before .before .before .before .before .before .loop .inv) (sym (sym (c .before .before .before .before .before .before .x .given .1) ∙ c .before .before .before .before .before .before .before .before .read-int .ensures)) (c .if6 .taken) (c .before .before .if4 .left) (c .before .before .before .before .before .before .before .before .before .word-end .ensures)
-
-add-at : tie.Need-add-at Inv-loop μ-loop
-add-at c = search needs
-
-add-column : tie.Need-add-column Inv-loop μ-loop
-add-column c = search needs
-
-loop-less : tie.Need-loop-less Inv-loop μ-loop
-loop-less c = search needs
+returns-6 c =
+    let found = c .before .before .before .before .before .before in
+    let called = found .before .before in
+    let entry = called .before .before .before .before .before in
+    let number = sym (sym (found .x .given .1) ∙ called .read-int .ensures) in
+    at-column (entry .loop-test .taken) (entry .before .loop .inv .begins) (more number (c .before .before .if4 .left) (c .if5 .taken) (called .before .word-end .ensures))
 
 loop-again : tie.Need-loop-again Inv-loop μ-loop
-loop-again c = next (c .before .before .before .before .before .before .before .before .before .before .before .before .before .before .loop .inv) (sym (sym (c .before .before .before .before .before .before .x .given .1) ∙ c .before .before .before .before .before .before .before .before .read-int .ensures)) (c .if6 .left)
+loop-again c =
+    let found = c .before .before .before .before .before .before in
+    let called = found .before .before in
+    let entry = called .before .before .before .before .before in
+    let turn = entry .before .loop in
+    let number = sym (sym (found .x .given .1) ∙ called .read-int .ensures) in
+    let inside = sym (c .before .before .before .before .outside .ensures) ∙ c .before .before .before .if3 .left in
+    before-next (turn .inv) (entry .loop-test .taken) number inside (c .before .before .if4 .left) (c .if5 .left)
 
-returns-8 : tie.Need-returns-8 Inv-loop μ-loop
-returns-8 c = long (c .loop-test .left) (c .before .loop .inv)
+returns-7 : tie.Need-returns-7 Inv-loop μ-loop
+returns-7 c = ninth (c .before .loop .inv) (c .loop-test .left)
 
 pub layout-of-spec : {M : Type 1} → statement M
 layout-of-spec =
@@ -78,23 +81,22 @@ layout-of-spec =
     (tie.spec
     Inv-loop
     μ-loop
-    loop-holds
+    (λ c. before-first _)
     returns
-    shared-slice-read-if2
+    (λ c. search needs)
     returns-2
-    word-end-requires
-    read-int-requires
-    enum-known-x
-    enum-told
+    (λ c κs. search needs)
+    (λ c κs. search needs)
+    (λ c. search needs)
+    (λ c. search needs)
     returns-3
-    outside-requires
+    (λ c κs. search needs)
     returns-4
     returns-5
+    (λ c. search needs)
     returns-6
-    shared-slice-read-if6
-    returns-7
-    add-at
-    add-column
-    loop-less
+    (λ c. search needs)
+    (λ c. search needs)
+    (λ c. search needs)
     loop-again
-    returns-8)
+    returns-7)

@@ -2,7 +2,8 @@ use mathlib.Core.Path.{sym, ap}
 use Rattle.model.specs.Log.{executed}
 use Rattle.stepping.specs.declared.How.{How}
 use Rattle.stepping.specs.Steps.{how-of}
-use Rattle.host.specs.Layout.{how-number, did-words, report-of}
+use Rattle.model.specs.Numbers.{did-numbers, how-number}
+use Rattle.host.specs.Layout.{padded, report-of}
 use borrow.Author.Needs.{needs}
 use Rattle.host.proofs.executed_report.Statement.{statement}
 use Rattle.host.proofs.executed_report.Tie as tie
@@ -27,22 +28,22 @@ enum-told-4 c = search needs
 
 -- src/lib.rt:87:1
 returns : tie.Need-returns
-unfolding did-words how-number
+unfolding padded did-numbers how-number
 returns c = let a = c .before .before .args in ap (λ (x : How). report-of (a .made) (a .gone) (executed (a .plan) (how-of x))) (sym (c .enum-told .given .1))
 
 -- src/lib.rt:87:1
 returns-2 : tie.Need-returns-2
-unfolding did-words how-number
+unfolding padded did-numbers how-number
 returns-2 c = let a = c .before .before .args in ap (λ (x : How). report-of (a .made) (a .gone) (executed (a .plan) (how-of x))) (sym (c .enum-told2 .given .1))
 
 -- src/lib.rt:87:1
 returns-3 : tie.Need-returns-3
-unfolding did-words how-number
+unfolding padded did-numbers how-number
 returns-3 c = let a = c .before .before .args in ap (λ (x : How). report-of (a .made) (a .gone) (executed (a .plan) (how-of x))) (sym (c .enum-told3 .given .1))
 
 -- src/lib.rt:87:1
 returns-4 : tie.Need-returns-4
-unfolding did-words how-number
+unfolding padded did-numbers how-number
 returns-4 c = let a = c .before .before .args in ap (λ (x : How). report-of (a .made) (a .gone) (executed (a .plan) (how-of x))) (sym (c .enum-told4 .given .1))
 
 pub executed-report-spec : {M : Type 1} → statement M

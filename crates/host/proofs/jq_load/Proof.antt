@@ -6,6 +6,7 @@ use borrow.Author.Tests.{not-true, not-false}
 use Rattle.loading.specs.Starting.{seen, starting}
 use Rattle.host.proofs.Settled.{long}
 use Rattle.host.proofs.Loads.{short-program, short-words, load-refused, load-accepted}
+use Rattle.host.specs.Layout.{padded}
 use borrow.Author.Needs.{needs}
 use Rattle.host.proofs.jq_load.Statement.{statement}
 use Rattle.host.proofs.jq_load.Tie as tie
@@ -120,6 +121,7 @@ same-length-11 c = search needs
 
 -- src/lib.rt:266:1
 returns-4 : tie.Need-returns-4
+unfolding padded
 returns-4 c = let a = c .before .before .before .before .before .before .before .before .before .before .before .before .before .before .before .before .before .before .before .before .before .before .before .before .before .before .before .before .before .before .before .before .before .before .before .before .before .args in (load-accepted (a .text .now) (a .program .now) (a .words .now) (a .scalars .now) (a .report .now) (c .before .before .before .before .before .before .before .before .before .before .before .before .before .before .before .before .before .before .before .before .before .before .before .before .before .before .before .before .before .before .before .if1 .left) (sym (c .before .before .before .before .before .before .before .before .before .before .before .before .before .before .before .before .before .before .before .before .before .before .before .before .before .before .before .is-sized .ensures) ∙ not-false _ (c .before .before .before .before .before .before .before .before .before .before .before .before .before .before .before .before .before .before .before .before .before .before .before .before .before .before .if2 .left)) (c .before .before .before .before .before .before .before .before .before .before .before .before .before .before .before .before .before .before .before .load .result) _ _ (ap (seen (c .before .before .before .before .before .before .before .before .before .before .before .before .before .before .before .before .before .before .before .load .result)) (c .before .before .before .before .before .before .before .before .before .before .before .lay .ensures .0) ∙ (c .before .before .before .before .before .before .before .before .before .before .before .before .before .before .before .before .before .before .before .load .ensures .0 ∙ ap (λ (x : List ℕ). starting (a .text .now) x (config-of (c .before .before .before .before .before .before .before .before .before .before .before .before .before .before .before .before .before .before .before .before .fresh .result .words) (c .before .before .before .before .before .before .before .before .before .before .before .before .before .before .before .before .before .before .before .before .fresh .result .scalars))) (c .before .before .before .before .before .before .before .before .before .before .before .before .before .before .before .before .before .before .before .before .before .before .before .copy .ensures))) (c .before .before .before .before .before .before .before .before .before .before .before .before .before .before .before .before .before .if3 .left) _ _ _ (c .before .before .before .before .before .before .before .before .before .before .before .lay .kept .1 .0) (c .before .before .before .before .before .before .before .before .before .before .before .lay .ensures .1) (c .before .before .before .before .settle .ensures .0) (c .before .before .before .before .settle .ensures .1 .0), λ z. absurd (z refl))
 
 pub jq-load-spec : {M : Type 1} → statement M

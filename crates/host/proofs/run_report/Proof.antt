@@ -1,7 +1,8 @@
 use mathlib.Core.Path.{sym, ap}
 use Rattle.running.specs.declared.Stop.{Stop}
 use Rattle.running.specs.Running.{stop-of}
-use Rattle.host.specs.Layout.{run-report}
+use Rattle.model.specs.Numbers.{stop-number, stop-refusal}
+use Rattle.host.specs.Layout.{padded, run-report}
 use borrow.Author.Needs.{needs}
 use Rattle.host.proofs.run_report.Statement.{statement}
 use Rattle.host.proofs.run_report.Tie as tie
@@ -26,22 +27,22 @@ enum-known-stop c = search needs
 
 -- src/lib.rt:117:1
 returns : tie.Need-returns
-unfolding run-report
+unfolding padded stop-number stop-refusal
 returns c = let a = c .before .before .args in ap (λ (x : Stop). run-report (a .made) (a .gone) (a .steps) (stop-of x)) (sym (c .enum-told .given .1))
 
 -- src/lib.rt:117:1
 returns-2 : tie.Need-returns-2
-unfolding run-report
+unfolding padded stop-number stop-refusal
 returns-2 c = let a = c .before .before .args in ap (λ (x : Stop). run-report (a .made) (a .gone) (a .steps) (stop-of x)) (sym (c .enum-told2 .given .1))
 
 -- src/lib.rt:117:1
 returns-3 : tie.Need-returns-3
-unfolding run-report
+unfolding padded stop-number stop-refusal
 returns-3 c = let a = c .before .before .args in ap (λ (x : Stop). run-report (a .made) (a .gone) (a .steps) (stop-of x)) (sym (c .enum-told3 .given .1))
 
 -- src/lib.rt:117:1
 returns-4 : tie.Need-returns-4
-unfolding run-report
+unfolding padded stop-number stop-refusal
 returns-4 c = let a = c .before .before .before .args in ap (λ (x : Stop). run-report (a .made) (a .gone) (a .steps) (stop-of x)) (sym (c .before .stop .given .1))
 
 pub run-report-spec : {M : Type 1} → statement M

@@ -1,4 +1,5 @@
-use Rattle.host.specs.Layout.{did-words}
+use Rattle.model.specs.Numbers.{did-numbers}
+use Rattle.host.specs.Layout.{padded}
 use borrow.Author.Needs.{needs}
 use Rattle.host.proofs.settle_change.Statement.{statement}
 use Rattle.host.proofs.settle_change.Tie as tie
@@ -20,7 +21,7 @@ same-length-2 c = search needs
 
 -- src/lib.rt:129:1
 returns : tie.Need-returns
-unfolding did-words
+unfolding padded did-numbers
 returns c = let r = c .before .before .before .before .settle .ensures in (r .0, (r .1 .0, r .1 .1))
 
 pub settle-change-spec : {M : Type 1} → statement M

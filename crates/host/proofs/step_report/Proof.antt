@@ -1,7 +1,8 @@
 use mathlib.Core.Path.{sym, ap, _∙_}
 use Rattle.stepping.specs.declared.Did.{Did}
 use Rattle.stepping.specs.Steps.{did-of}
-use Rattle.host.specs.Layout.{did-words, report-of}
+use Rattle.model.specs.Numbers.{did-numbers}
+use Rattle.host.specs.Layout.{padded, report-of}
 use borrow.Author.Needs.{needs}
 use Rattle.host.proofs.step_report.Statement.{statement}
 use Rattle.host.proofs.step_report.Tie as tie
@@ -44,32 +45,32 @@ enum-told-3 c = search needs
 
 -- src/lib.rt:99:1
 returns : tie.Need-returns
-unfolding did-words
+unfolding padded did-numbers
 returns c = let a = c .before .before .args in ap (λ (x : Did). report-of (a .made) (a .gone) (did-of x)) (sym (c .enum-told .given .1))
 
 -- src/lib.rt:99:1
 returns-2 : tie.Need-returns-2
-unfolding did-words
+unfolding padded did-numbers
 returns-2 c = let a = c .before .before .before .before .args in c .fired-report .ensures ∙ ap (λ (x : Did). report-of (a .made) (a .gone) (did-of x)) (sym (c .before .before .did .given .1))
 
 -- src/lib.rt:99:1
 returns-3 : tie.Need-returns-3
-unfolding did-words
+unfolding padded did-numbers
 returns-3 c = let a = c .before .before .args in ap (λ (x : Did). report-of (a .made) (a .gone) (did-of x)) (sym (c .enum-told2 .given .1))
 
 -- src/lib.rt:99:1
 returns-4 : tie.Need-returns-4
-unfolding did-words
+unfolding padded did-numbers
 returns-4 c = let a = c .before .before .before .before .args in c .executed-report .ensures ∙ ap (λ (x : Did). report-of (a .made) (a .gone) (did-of x)) (sym (c .before .before .did2 .given .1))
 
 -- src/lib.rt:99:1
 returns-5 : tie.Need-returns-5
-unfolding did-words
+unfolding padded did-numbers
 returns-5 c = let a = c .before .before .before .args in ap (λ (x : Did). report-of (a .made) (a .gone) (did-of x)) (sym (c .before .did3 .given .1))
 
 -- src/lib.rt:99:1
 returns-6 : tie.Need-returns-6
-unfolding did-words
+unfolding padded did-numbers
 returns-6 c = let a = c .before .before .args in ap (λ (x : Did). report-of (a .made) (a .gone) (did-of x)) (sym (c .enum-told3 .given .1))
 
 pub step-report-spec : {M : Type 1} → statement M

@@ -1,10 +1,7 @@
-use Rattle.interpreter.proofs.Replies.{step-back}
+use Rattle.interpreter.proofs.Replies.{step-back, obeys}
 use borrow.Author.Needs.{needs}
 use Rattle.interpreter.proofs.step.Statement.{statement}
 use Rattle.interpreter.proofs.step.Tie as tie
-use Rattle.interpreter.proofs.step.Reads as reads
-use Rattle.interpreter.proofs.step.Lts as lts
-use Rattle.in_place.proofs.step.Reads as step-reads
 
 -- src/lib.rt:99:37
 slice-aggregate-step : tie.Need-slice-aggregate-step
@@ -16,7 +13,7 @@ step-requires c κs = search needs
 
 -- src/lib.rt:94:1
 returns : tie.Need-returns
-returns c = let r = c .before .before .step in (r .ensures .0, step-back _ (r .last .1 .0) (r .result) (r .ensures .1))
+returns c = let r = c .before .before .step in (r .ensures .0, (step-back _ (r .last .1 .0) (r .result) (r .ensures .1), obeys _ _ _ (r .ensures .0)))
 
 pub step-spec : {M : Type 1} → statement M
 step-spec = tie.close (tie.spec slice-aggregate-step step-requires returns)

@@ -1,16 +1,11 @@
 use mathlib.Core.Path.{sym, ap, _∙_}
 use native.Mathlib.Omega.{arith}
 use Rattle.model.specs.Configuration.{fresh}
-use Rattle.printed_run.proofs.Printed.{shown, load-refused, load-accepted, rows-held, rows-given, started-fresh, then-run, rows-fit}
+use Rattle.interpreter.proofs.Loads.{load-accepted, rows-held, rows-given, started-fresh, rows-fit}
+use Rattle.printed_run.proofs.Printed.{shown, load-refused, then-run}
 use borrow.Author.Needs.{needs}
 use Rattle.printed_run.proofs.print_run.Statement.{statement}
 use Rattle.printed_run.proofs.print_run.Tie as tie
-use Rattle.printed_run.proofs.print_run.Reads as reads
-use Rattle.printed_run.proofs.print_run.Lts as lts
-use Rattle.listing.proofs.put_refusal.Reads as put-refusal-reads
-use Rattle.loading.proofs.load.Reads as load-reads
-use Rattle.printed_run.proofs.print_first.Reads as print-first-reads
-use Rattle.state.proofs.Config.fresh.Reads as fresh-reads
 
 -- src/lib.rt:58:44
 fresh-requires : tie.Need-fresh-requires
