@@ -41,7 +41,8 @@ enum {
     JQ_PLAN = 18,
     JQ_SCALARS = 6,
     JQ_REPORT = 8,
-    JQ_NO_VALUE = 65536
+    JQ_NO_VALUE = 65536,
+    JQ_STEP_STACK = 40960 /* bytes of stack for jq_step and jq_run: what a long search needs, rounded up */
 };
 
 /* Places among the scalars. */

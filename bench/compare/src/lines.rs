@@ -2,6 +2,7 @@
 
 use crate::programs;
 use crate::sides::Call;
+use crate::slow;
 
 pub enum Work {
     Calls(Vec<Call>),
@@ -18,6 +19,8 @@ pub struct Line {
     pub work: Work,
     /// How many atoms and plans live afterwards: the work is what its name says.
     pub left: (u32, u32),
+    /// Whether the plain interpreter works it too: it tries every way, and some lines have too many.
+    pub beside: bool,
 }
 
 pub fn all() -> Vec<Line> {
@@ -39,6 +42,7 @@ pub fn all() -> Vec<Line> {
         loading(),
         round_robin(),
     ]);
+    lines.extend(slow::all());
     lines
 }
 
@@ -60,6 +64,7 @@ fn printed(name: &str, work: Vec<Call>) -> Line {
         before: vec![Call::Sense(vec![[1, 1, 3, 1200]])],
         work: Work::Calls(work),
         left: (2, 1),
+        beside: true,
     }
 }
 
@@ -76,6 +81,7 @@ fn nest(depth: usize) -> Line {
         before: vec![],
         work: Work::Calls(work),
         left: (0, 0),
+        beside: true,
     }
 }
 
@@ -95,6 +101,7 @@ fn join(atoms: u32, has_match: bool) -> Line {
         before,
         work: Work::Calls(vec![Call::Step]),
         left: (atoms, u32::from(has_match)),
+        beside: true,
     }
 }
 
@@ -107,6 +114,7 @@ fn any_rows() -> Line {
         before,
         work: Work::Calls(vec![Call::Step]),
         left: (250, 0),
+        beside: true,
     }
 }
 
@@ -119,6 +127,7 @@ fn rules() -> Line {
         before,
         work: Work::Calls(vec![Call::Step]),
         left: (100, 1),
+        beside: true,
     }
 }
 
@@ -131,6 +140,7 @@ fn deletion() -> Line {
         before: cycles(&rows),
         work: Work::Calls(vec![Call::Delete(1)]),
         left: (60, 0),
+        beside: true,
     }
 }
 
@@ -141,6 +151,7 @@ fn sensing() -> Line {
         before: cycles(&readings(9, 190)),
         work: Work::Calls(vec![Call::Sense(readings(9, 64))]),
         left: (254, 0),
+        beside: true,
     }
 }
 
@@ -152,6 +163,7 @@ fn loading() -> Line {
         before: vec![],
         work: Work::Load,
         left: (8, 0),
+        beside: true,
     }
 }
 
@@ -162,5 +174,6 @@ fn round_robin() -> Line {
         before: vec![Call::Sense(readings(1, 10))],
         work: Work::Calls(vec![Call::Run(10_000)]),
         left: (10, 20),
+        beside: true,
     }
 }

@@ -2,13 +2,15 @@
 //!
 //! Both sides are given the same calls from the same start, in turn within one run, round after round over all lines. A figure is
 //! the least of all rounds; what it takes to copy the start is measured alone and subtracted on both sides. By value each call is
-//! given a copy of the configuration, and the copy is part of its time. `compare [ROUNDS]`
+//! given a copy of the configuration, and the copy is part of its time. Lines at which the plain interpreter would not end are the
+//! library's alone. `compare [ROUNDS]`
 
 #![forbid(unsafe_code)]
 
 mod lines;
 mod programs;
 mod sides;
+mod slow;
 mod timing;
 
 use lines::Work;
@@ -29,15 +31,18 @@ fn main() {
     println!("|---|---|---|---|---|---|---|");
     for ((line, in_place), by_value) in lines.iter().zip(in_place).zip(by_value) {
         let by_value = match line.work {
-            Work::Calls(_) => cells(by_value.seconds()),
-            Work::Load => "| | |".into(),
+            Work::Calls(_) if line.beside => cells(by_value.seconds()),
+            _ => "| | |".into(),
         };
         println!("| {} {} {by_value} |", line.name, cells(in_place.seconds()));
     }
 }
 
 /// Two times and their ratio.
-fn cells((proved, plain): (f64, f64)) -> String {
+fn cells((proved, plain): (f64, Option<f64>)) -> String {
+    let Some(plain) = plain else {
+        return format!("| {} | | ", shown(proved));
+    };
     let ratio = proved / plain;
     format!("| {} | {} | {ratio:.2}", shown(proved), shown(plain))
 }

@@ -22,18 +22,21 @@ pub enum Way {
     ByValue,
 }
 
-/// Both sides of a line.
+/// Both sides of a line, or the proved one alone.
 pub struct Pair<'a> {
     proved: Bench<'a, Proved>,
-    plain: Bench<'a, Config>,
+    plain: Option<Bench<'a, Config>>,
     taken: Duration,
 }
 
 impl<'a> Pair<'a> {
     /// Both sides come to the same, and that is what the line says.
     pub fn new(line: &'a Line, way: Way) -> Self {
-        let (proved, plain) = (Bench::new(line, way), Bench::new(line, way));
-        assert_eq!(proved.end, plain.end, "{}", line.name);
+        let proved: Bench<Proved> = Bench::new(line, way);
+        let plain: Option<Bench<Config>> = line.beside.then(|| Bench::new(line, way));
+        if let Some(plain) = &plain {
+            assert_eq!(proved.end, plain.end, "{}", line.name);
+        }
         let [.., atoms, plans] = proved.end;
         assert_eq!((atoms, plans), line.left, "{}", line.name);
         Pair {
@@ -50,13 +53,16 @@ impl<'a> Pair<'a> {
         }
         let clock = Instant::now();
         self.proved.repeat();
-        self.plain.repeat();
+        if let Some(plain) = &mut self.plain {
+            plain.repeat();
+        }
         self.taken += clock.elapsed();
     }
 
     /// The least seconds of the proved side and of the plain one.
-    pub fn seconds(&self) -> (f64, f64) {
-        (self.proved.seconds(), self.plain.seconds())
+    pub fn seconds(&self) -> (f64, Option<f64>) {
+        let plain = self.plain.as_ref();
+        (self.proved.seconds(), plain.map(Bench::seconds))
     }
 }
 

@@ -287,7 +287,8 @@ impl Case {
 /// The most candidates that a set's rules may have to be tried with.
 const MOST_COST: u64 = 20_000;
 
-/// How many tries the rules' rows can take at most: for each rule the product of the candidates of its rows.
+/// How many tries the rules' rows can take at most: for each rule the product of the candidates of its rows, but of a row of context that
+/// gives no variable a value one is tried.
 fn cost(program: &Program, config: &Config) -> u64 {
     let mut atoms = [0; 256];
     for x in &config.atoms {
@@ -304,18 +305,27 @@ fn worst_cost(program: &Program) -> u64 {
 fn cost_with(program: &Program, atoms: impl Fn(u32) -> u64, plans: u64) -> u64 {
     let mut of_rule = 1_u64;
     let mut rule = (0, 0);
+    let mut valued = vec![];
     let mut most = 1;
     for row in program.rows.iter().filter(|r| r.part == 1 || r.part == 2) {
         if rule != (row.set, row.rule) {
             rule = (row.set, row.rule);
             of_rule = 1;
+            valued.clear();
         }
+        let operands = [row.i, row.a, row.b].map(i64::from);
+        let is_new = |x: &i64| (-8..0).contains(x) && !valued.contains(x);
+        let new: Vec<_> = operands.into_iter().filter(is_new).collect();
         let candidates = match row.op {
+            _ if row.part == 2 && new.is_empty() => 1,
             1 => atoms(row.p),
             3 | 5 | 9 | 11 => plans,
             7 => plans * 4,
             _ => 1,
         };
+        if row.op % 2 == 1 {
+            valued.extend(new);
+        }
         of_rule = of_rule.saturating_mul(candidates.max(1));
         most = most.max(of_rule);
     }

@@ -35,6 +35,7 @@ pub fn whole(random: &mut Random) -> Vec<Line> {
         0 => nest(random),
         1 => many_rules(random),
         2 => vec![],
+        3..=5 => long_rules(random),
         _ => mixed(random),
     }
 }
@@ -92,6 +93,42 @@ fn many_rules(random: &mut Random) -> Vec<Line> {
             }
         }
     }
+    lines
+}
+
+/// Rules of ten rows over atoms that are there from the start: more ways than a search tries before it goes the long way.
+fn long_rules(random: &mut Random) -> Vec<Line> {
+    let numbers = random.between(2, 6);
+    let variables = random.between(3, 8);
+    let mut author = Author {
+        random,
+        predicates: 3,
+        numbers,
+        variables,
+        valued: vec![],
+    };
+    let mut lines = vec![];
+    // what the rows of the last predicate ask for is rare or missing
+    let counts = [
+        author.random.between(4, 9),
+        author.random.between(1, 3),
+        author.random.below(2),
+    ];
+    for (p, count) in (1..).zip(counts) {
+        for _ in 0..count {
+            lines.push([0, 0, 0, 41, 0, p, author.number(), author.number()]);
+        }
+    }
+    let is_object = !author.random.once_in(4);
+    for rule in 1..=author.random.between(1, 2) as i64 {
+        let rows = author.long_rule(rule, is_object);
+        if is_object {
+            lines.extend(rows);
+        } else {
+            lines.extend(author.guarded(rows));
+        }
+    }
+    lines.extend(scheduling(2));
     lines
 }
 
@@ -194,6 +231,53 @@ impl Author<'_> {
             }
         }
         lines
+    }
+
+    /// Four reasons and six rows of context, or six rows of a meta rule; most operands are variables.
+    fn long_rule(&mut self, rule: i64, is_object: bool) -> Vec<Line> {
+        self.valued.clear();
+        let reasons = if is_object { 4 } else { 0 };
+        let mut lines = vec![];
+        for k in 0..reasons + 6 {
+            let part = if k < reasons { 1 } else { 2 };
+            let op = match part {
+                1 => 1,
+                _ => self.random.one_of(&[1, 1, 2]),
+            };
+            let p = match part {
+                1 => self.random.one_of(&[1, 1, 1, 2]),
+                _ => self.predicate(),
+            };
+            let i = self.variable_once_in(4);
+            let operands = [self.variable_but_once_in(3), self.variable_once_in(3)];
+            if op == 1 {
+                let variables = [i, operands[0], operands[1]];
+                self.valued
+                    .extend(variables.into_iter().filter(|&x| x != ANY));
+            }
+            lines.push([1, rule, part, op, i, p, operands[0], operands[1]]);
+        }
+        let [op, i, p, a, b] = if is_object {
+            self.step()
+        } else {
+            self.action()
+        };
+        lines.push([1, rule, 3, op, i, p, a, b]);
+        lines
+    }
+
+    fn variable_once_in(&mut self, n: usize) -> i64 {
+        match self.random.below(n) {
+            0 => self.variable(),
+            _ => ANY,
+        }
+    }
+
+    fn variable_but_once_in(&mut self, n: usize) -> i64 {
+        match self.random.below(n) {
+            0 => ANY,
+            _ => self.variable(),
+        }
     }
 
     /// A meta rule that first makes an atom and does not match once there is one: the phase is left.

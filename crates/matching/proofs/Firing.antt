@@ -127,6 +127,22 @@ module _ (program : List ℕ) (s n start behind mid end : ℕ) (x : Parts progra
         ∙ ap (map (fired n)) (counted-next program words scalars rule-at start f k r e)
         ∙ map-bind (fired n) (counted program words scalars rule-at (start + 1)) (answers words scalars r f 0))
 
+-- the first of some matches: there is none, or it fires
+module _ (g : Found → Firing) (l : List Found) (rest : List Firing) (a : List Found) (e : a ≡ first-of l) where
+  long-spent : a ≡ [] → first-of (map g l ++ rest) ≡ first-of rest
+  long-spent h = at l (sym e ∙ h)
+    where
+      at : (l : List Found) → first-of l ≡ [] → first-of (map g l ++ rest) ≡ first-of rest
+      at [] q = refl
+      at (x ∷ l) q = clash refl (sym (ap is-empty q))
+
+  long-reached : is-empty a ≡ false → map g a ≡ first-of (map g l ++ rest)
+  long-reached h = ap (map g) e ∙ at l (sym (ap is-empty e) ∙ h)
+    where
+      at : (l : List Found) → is-empty (first-of l) ≡ false → map g (first-of l) ≡ first-of (map g l ++ rest)
+      at [] q = clash refl q
+      at (x ∷ l) q = refl
+
 -- what the search found: nothing, or a match
 module _ (values matched : List ℕ) (n : ℕ) where
   pub match-none : n ≡ 0 → match-in values matched n ≡ []
@@ -168,3 +184,26 @@ pub record Trying (program words : List ℕ) (scalars : Scalars) (rule : Rule) (
   pub at-first : once ≡ true → c ≡ 0
   pub is : firing (rows-of program) (config-of words scalars) (rule .set)
       ≡ first-of (bind (answers words scalars r f c) (follow program words scalars rule start) ++ fires (rows-of program) (config-of words scalars) (rule .set) (rule .number + 1))
+
+-- all that is left of the rule was tried: nothing fires, or its match
+module _ {program words : List ℕ} {scalars : Scalars} {rule : Rule} {best : Choice} {start : ℕ} {r : Row} {f : Found} {once : Bool} {c : ℕ} (x : Trying program words scalars rule best start r f once c)
+    (q : r ≡ row-at program start) (a : List Found) (e : a ≡ first-of (bind (answers words scalars (row-at program start) f c) (counted program words scalars rule (start + 1)))) where
+  abbrev left-over : List Found
+  left-over = bind (answers words scalars (row-at program start) f c) (counted program words scalars rule (start + 1))
+
+  abbrev behind : List Firing
+  behind = fires (rows-of program) (config-of words scalars) (rule .set) (rule .number + 1)
+
+  trying-is : firing (rows-of program) (config-of words scalars) (rule .set) ≡ first-of (map (fired (rule .number)) left-over ++ behind)
+  unfolding follow
+  trying-is =
+      x .is
+      ∙ ap (λ (l : List Firing). first-of (l ++ behind))
+      (sym (map-bind (fired (rule .number)) (counted program words scalars rule (start + 1)) (answers words scalars r f c))
+      ∙ ap (λ (y : Row). map (fired (rule .number)) (bind (answers words scalars y f c) (counted program words scalars rule (start + 1)))) q)
+
+  pub rest-none : a ≡ [] → firing (rows-of program) (config-of words scalars) (rule .set) ≡ first-of behind
+  rest-none h = trying-is ∙ long-spent (fired (rule .number)) left-over behind a e h
+
+  pub rest-one : is-empty a ≡ false → map (fired (rule .number)) a ≡ firing (rows-of program) (config-of words scalars) (rule .set)
+  rest-one h = long-reached (fired (rule .number)) left-over behind a e h ∙ sym trying-is

@@ -40,10 +40,10 @@ counted program words s rule k f =
 abbrev pub match-in : List ℕ → List ℕ → ℕ → List Found
 match-in values matched n = if eqb n 0 then [] else found-in values matched (n - 1) ∷ []
 
--- the first of these matches
+-- the first of these matches; 6: the search gave up
 pub record Searched (l : List Found) (values matched : List ℕ) (n : ℕ) : Type 0 where
-  pub is : match-in values matched n ≡ first-of l
-  pub few : n ≤ 5
+  pub is : n ≤ 5 → match-in values matched n ≡ first-of l
+  pub few : n ≤ 6
 
 -- ids in a list, and zeros behind them
 abbrev pub ids-of : Ids → List ℕ

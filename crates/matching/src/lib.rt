@@ -1,20 +1,30 @@
 // The matches of rules: the backtracking search over a rule's rows, the test for an equal plan, and the choice of the rule.
+pub mod hints;
+pub mod sets;
+
 use model::Row;
 use queries::Bindings;
 use state::Scalars;
 ghost use mathlib.Core.Path.{_≡_};
 ghost use mathlib.Core.Bool.{true, _&&_};
+ghost use mathlib.Core.Logic.{_⊎_, _≢_};
 ghost use Prim.Native.Nat.{_+_, _-_, _*_, _/_, _<_, _≤_};
 ghost use lib.Dec.{eqb};
 ghost use lib.ListN.{length, take};
-ghost use Rattle.lists.specs.Lists.{Pairs, insert as inserted, rising-set as rising-set-of, same};
+ghost use Rattle.lists.specs.Lists.{Pairs, insert as inserted, rising-set as rising-set-of, same, bind};
 ghost use Rattle.model.specs.Matching.{nothing-found, body-value, body-values, justifications-of, equal-plan, counts as counts-of, firing};
 ghost use Rattle.program.specs.Rows.{row-at, rows-of};
 ghost use Rattle.program_laws.specs.Lawful.{NotLater, Lawful};
 ghost use Rattle.spans.specs.Spans.{Bound};
 ghost use Rattle.state.specs.View.{plan-at, config-of};
+ghost use Rattle.nogoods.specs.Nogoods.{no-set, size, nogood, Replaced};
 ghost use Rattle.queries.specs.View.{found-in, found-of, Limits, Sized, Kept};
+ghost use Rattle.queries.specs.Answers.{answers};
 ghost use Rattle.matching.specs.Rules.{rows-between, reasons-in, Located, counted, Searched, ids-of, Padded, choice-of, Chosen};
+ghost use Rattle.matching.specs.Sets.{OfBody, Barren, Remembered, LongSearched, RestSearched};
+
+// How many rows a rule's search may try before it goes the long way, which costs more for each row and forgets no failure.
+const FUEL: u32 = 500;
 
 // A rule: its set and number, where its body begins, which is where its reasons and context end, where its body ends, and
 // whether it is an object rule.
@@ -209,8 +219,8 @@ fn counts<'a>(program: &'a [u32], words: &'a [u32], s: Scalars, rule: Rule, f: B
 }
 
 // The first match of the rows from k up to the rule's body that counts, in place: `count` ids are matched before. One more than are
-// matched then, or 0 where there is no match, and all is as it was. "Rows are tried left to right, .. candidates in rising id": the search
-// calls itself on the rows that remain. A row that leaves everything as it was is tried once.
+// matched then; 0 where there is no match, and all is as it was; 6 where it gave up, since `fuel` rows were tried. "Rows are tried left to
+// right, .. candidates in rising id": the search calls itself on the rows that remain. A row that leaves everything as it was is tried once.
 pub fn search<'a>(
     program: &'a [u32],
     words: &'a [u32],
@@ -220,13 +230,19 @@ pub fn search<'a>(
     count: usize,
     values: &mut [u32; 8],
     matched: &mut [u32; 4],
+    fuel: &mut [u32; 1],
 ) -> usize
-    requires { ⌜ Located (now program) rule × Limits (now words) s × (count + reasons-in (now program) k (rule .body) ≤ 4) × Sized (now values) (now matched) ⌝ }
-    ensures sized { λ _. ⌜ Sized (now (values .exit)) (now (matched .exit)) ⌝ }
+    requires { ⌜ Located (now program) rule × Limits (now words) s × (count + reasons-in (now program) k (rule .body) ≤ 4) × Sized (now values) (now matched) × (length (now fuel) ≡ 1) ⌝ }
+    ensures sized { λ _. ⌜ Sized (now (values .exit)) (now (matched .exit)) × (length (now (fuel .exit)) ≡ 1) ⌝ }
     ensures is { λ n. ⌜ Searched (counted (now (program .entry)) (now (words .entry)) s rule k (found-in (now (values .entry)) (now (matched .entry)) count)) (now (values .exit)) (now (matched .exit)) n ⌝ }
     ensures back { λ n. ⌜ (n ≡ 0 → now (values .exit) ≡ now (values .entry)) ⌝ }
     ensures kept { λ _. ⌜ Kept count (now (matched .entry)) (now (matched .exit)) ⌝ }
 {
+    let left = fuel[0];
+    if left == 0 {
+        return 6;
+    }
+    fuel[0] = left - 1;
     let before = *values;
     if rule.body <= k {
         let ids = *matched;
@@ -248,12 +264,268 @@ pub fn search<'a>(
             return 0;
         }
         let n = count + queries::given_ids(r);
-        let m = search(program, words, s, rule, k + 1, n, values, matched);
+        let m = search(program, words, s, rule, k + 1, n, values, matched, fuel);
         if m != 0 {
             return m;
         }
         *values = before;
         if queries::closes(r, before) {
+            return 0;
+        }
+    }
+}
+
+// Whether a later row settles it: the set on which it hangs that some row of the list has no answer, or `NONE`. The list holds rows by how many
+// are to go from them on, four bits each. A row all of whose operands have values answers now as it will when its turn comes, since what has a
+// value keeps it: so where it has no answer, none of the rows before it need be tried.
+fn ask_later<'a>(
+    program: &'a [u32],
+    words: &'a [u32],
+    s: Scalars,
+    rule: Rule,
+    k: usize,
+    list: u32,
+    count: usize,
+    values: &mut [u32; 8],
+    matched: &mut [u32; 4],
+) -> u32
+    requires { ⌜ Located (now program) rule × Limits (now words) s × (k < rule .body) × (count ≤ 4) × Sized (now values) (now matched) ⌝ }
+    ensures sized { λ _. ⌜ Sized (now (values .exit)) (now (matched .exit)) ⌝ }
+    ensures is { λ m. ⌜ (m ≢ no-set → Barren (now (program .entry)) (now (words .entry)) s rule k (found-in (now (values .entry)) (now (matched .entry)) count) m) ⌝ }
+    ensures back { λ _. ⌜ now (values .exit) ≡ now (values .entry) ⌝ }
+    ensures kept { λ _. ⌜ Kept count (now (matched .entry)) (now (matched .exit)) ⌝ }
+{
+    let before = *values;
+    let body = rule.body;
+    let mut left = list;
+    while left != 0 {
+        let j = (left % 16) as usize;
+        if body - k <= j {
+            return nogoods::NONE;
+        }
+        if j == 0 {
+            return nogoods::NONE;
+        }
+        let r = program::row_at(program, body - j);
+        if sets::is_settled(r, &before) {
+            if queries::next_answer(words, s, r, 0, before, count, values, matched) == 0 {
+                return sets::operands(r);
+            }
+            *values = before;
+        }
+        left = left / 16;
+    }
+    nogoods::NONE
+}
+
+// What is known before the rows from k on are tried: the set on which their failure hangs, or `NONE`. A nogood says it, or a later row.
+fn glance<'a>(
+    program: &'a [u32],
+    words: &'a [u32],
+    s: Scalars,
+    rule: Rule,
+    k: usize,
+    hint: u32,
+    count: usize,
+    values: &mut [u32; 8],
+    matched: &mut [u32; 4],
+    hints: &mut [u32],
+    known: &'a [u32],
+) -> u32
+    requires { ⌜ Located (now program) rule × Limits (now words) s × (k < rule .body) × (count ≤ 4) × Sized (now values) (now matched) × Remembered (now program) (now words) s rule (now known) ⌝ }
+    ensures sized { λ _. ⌜ Sized (now (values .exit)) (now (matched .exit)) ⌝ }
+    ensures is { λ m. ⌜ (m ≢ no-set → Barren (now (program .entry)) (now (words .entry)) s rule k (found-in (now (values .entry)) (now (matched .entry)) count) m) ⌝ }
+    ensures back { λ _. ⌜ now (values .exit) ≡ now (values .entry) ⌝ }
+    ensures kept { λ _. ⌜ Kept count (now (matched .entry)) (now (matched .exit)) ⌝ }
+{
+    if hint / hints::NOGOOD % 2 == 1 {
+        let before = *values;
+        let ids = *matched;
+        let set = nogoods::recall(known, rule.body - k, hint, before, count, ids);
+        if set != nogoods::NONE {
+            return set;
+        }
+    }
+    if hint < hints::LIST {
+        return nogoods::NONE;
+    }
+    let set = ask_later(
+        program,
+        words,
+        s,
+        rule,
+        k,
+        hint / hints::LIST,
+        count,
+        values,
+        matched,
+    );
+    hints::charge(hints, set != nogoods::NONE);
+    set
+}
+
+// The set on which a failure hangs, noted where the hint says that it may be met again.
+fn learn(
+    known: &mut [u32],
+    hint: u32,
+    rest: usize,
+    set: u32,
+    values: [u32; 8],
+    count: usize,
+    ids: [u32; 4],
+) -> u32
+    requires { ⌜ (length (now known) ≡ size) × (hint ≢ 0 → rest < 16) × (count ≤ 4) ⌝ }
+    ensures is { λ r. ⌜ r ≡ set ⌝ }
+    ensures noted { λ _. ⌜ (now (known .exit) ≡ now (known .entry)) ⊎ Replaced (now (known .entry)) (now (known .exit)) (nogood rest set values count ids) ⌝ }
+{
+    if hint / hints::NOGOOD % 2 == 1 {
+        nogoods::note(known, rest, hint, set, values, count, ids);
+    }
+    set
+}
+
+// The first match that counts where a search is long, to its end: `NONE` and the ids that are matched then, or the set on which its failure
+// hangs, and all is as it was. `body` is what it hangs on whether a match counts; `known` are nogoods of the same rule. A row that changes
+// nothing of what a failure hangs on is left at once: its other answers would fail alike.
+pub fn search_long<'a>(
+    program: &'a [u32],
+    words: &'a [u32],
+    s: Scalars,
+    rule: Rule,
+    k: usize,
+    count: usize,
+    values: &mut [u32; 8],
+    matched: &mut [u32; 4],
+    body: u32,
+    hints: &mut [u32],
+    known: &mut [u32],
+) -> u32
+    requires { ⌜ Located (now program) rule × Limits (now words) s × (count + reasons-in (now program) k (rule .body) ≤ 4) × Sized (now values) (now matched) × OfBody (now program) (rule .body) (rule .end) body × Remembered (now program) (now words) s rule (now known) ⌝ }
+    ensures sized { λ _. ⌜ Sized (now (values .exit)) (now (matched .exit)) ⌝ }
+    ensures is { λ m. ⌜ LongSearched (now (program .entry)) (now (words .entry)) s rule k (found-in (now (values .entry)) (now (matched .entry)) count) (now (values .exit)) (now (matched .exit)) m ⌝ }
+    ensures back { λ m. ⌜ (m < no-set → now (values .exit) ≡ now (values .entry)) ⌝ }
+    ensures kept { λ _. ⌜ Kept count (now (matched .entry)) (now (matched .exit)) ⌝ }
+    ensures learnt { λ _. ⌜ Remembered (now (program .entry)) (now (words .entry)) s rule (now (known .exit)) ⌝ }
+{
+    let before = *values;
+    if rule.body <= k {
+        let ids = *matched;
+        let f = Bindings {
+            values: before,
+            matched: ids,
+            count,
+        };
+        if counts(program, words, s, rule, f) {
+            return nogoods::NONE + count as u32;
+        }
+        return body;
+    }
+    let rest = rule.body - k;
+    let hint = hints::hint_at(hints, rest);
+    if hint != 0 {
+        let set = glance(
+            program,
+            words,
+            s,
+            rule,
+            k,
+            hint,
+            count,
+            values,
+            matched,
+            hints,
+            known,
+        );
+        if set != nogoods::NONE {
+            return set;
+        }
+    }
+    let r = program::row_at(program, k);
+    let mut blame = sets::operands(r);
+    // not asked yet
+    let mut gives = nogoods::NONE;
+    let mut c: usize = 0;
+    loop {
+        c = queries::next_answer(words, s, r, c, before, count, values, matched);
+        if c == 0 {
+            let ids = *matched;
+            return learn(known, hint, rest, blame, before, count, ids);
+        }
+        let n = count + queries::given_ids(r);
+        let m = search_long(
+            program,
+            words,
+            s,
+            rule,
+            k + 1,
+            n,
+            values,
+            matched,
+            body,
+            hints,
+            known,
+        );
+        if nogoods::NONE <= m {
+            return m;
+        }
+        *values = before;
+        gives = sets::asked(gives, r, &before);
+        if sets::are_apart(m, gives) {
+            let ids = *matched;
+            return learn(known, hint, rest, m, before, count, ids);
+        }
+        blame = sets::union(blame, m);
+    }
+}
+
+// A rule's search gone on with, the long way: by the answers of its first row, row k, from number `from` on. `NONE` and the ids that are matched
+// then, or 0.
+fn search_rest<'a>(
+    program: &'a [u32],
+    words: &'a [u32],
+    s: Scalars,
+    rule: Rule,
+    k: usize,
+    from: usize,
+    values: &mut [u32; 8],
+    matched: &mut [u32; 4],
+) -> u32
+    requires { ⌜ Located (now program) rule × Limits (now words) s × (k < rule .body) × (reasons-in (now program) k (rule .body) ≤ 4) × Sized (now values) (now matched) ⌝ }
+    ensures sized { λ _. ⌜ Sized (now (values .exit)) (now (matched .exit)) ⌝ }
+    ensures is { λ m. ⌜ RestSearched (bind (answers (now (words .entry)) s (row-at (now (program .entry)) k) (found-in (now (values .entry)) (now (matched .entry)) 0) from) (counted (now (program .entry)) (now (words .entry)) s rule (k + 1))) (now (values .exit)) (now (matched .exit)) m ⌝ }
+    ensures back { λ m. ⌜ (m < no-set → now (values .exit) ≡ now (values .entry)) ⌝ }
+{
+    let before = *values;
+    let body = sets::of_body(program, rule.body, rule.end);
+    let mut hints = hints::of_rule(program, words, s, k, rule.body);
+    let mut known: [u32; nogoods::SIZE] = [0; nogoods::SIZE];
+    let r = program::row_at(program, k);
+    let gives = sets::changed(r, &before);
+    let n = queries::given_ids(r);
+    let mut c = from;
+    loop {
+        c = queries::next_answer(words, s, r, c, before, 0, values, matched);
+        if c == 0 {
+            return 0;
+        }
+        let m = search_long(
+            program,
+            words,
+            s,
+            rule,
+            k + 1,
+            n,
+            values,
+            matched,
+            body,
+            &mut hints,
+            &mut known,
+        );
+        if nogoods::NONE <= m {
+            return m;
+        }
+        *values = before;
+        if sets::are_apart(m, gives) {
             return 0;
         }
     }
@@ -345,9 +617,11 @@ pub fn choose<'a>(program: &'a [u32], words: &'a [u32], s: Scalars, set: u32) ->
             break 'rules;
         }
         let once = queries::closes(r, before);
+        let mut fuel: [u32; 1] = [FUEL; 1];
         let mut c: usize = 0;
         'candidates: loop {
-            c = queries::next_answer(words, s, r, c, before, 0, &mut values, &mut matched);
+            let from = c;
+            c = queries::next_answer(words, s, r, from, before, 0, &mut values, &mut matched);
             if c == 0 {
                 break 'candidates;
             }
@@ -361,7 +635,34 @@ pub fn choose<'a>(program: &'a [u32], words: &'a [u32], s: Scalars, set: u32) ->
                 ids,
                 &mut values,
                 &mut matched,
+                &mut fuel,
             );
+            if m == 6 {
+                values = before;
+                let d = search_rest(
+                    program,
+                    words,
+                    s,
+                    rule,
+                    start,
+                    from,
+                    &mut values,
+                    &mut matched,
+                );
+                if d < nogoods::NONE {
+                    break 'candidates;
+                }
+                best = Choice {
+                    bindings: Bindings {
+                        values,
+                        matched,
+                        count: (d - nogoods::NONE) as usize,
+                    },
+                    rule,
+                    found: true,
+                };
+                break 'rules;
+            }
             if m != 0 {
                 best = Choice {
                     bindings: Bindings {

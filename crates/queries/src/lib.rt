@@ -193,7 +193,7 @@ pub fn given_ids(r: Row) -> usize
 }
 
 // Whether an operand takes no value: any, a constant, a variable with a value.
-fn settles(x: u32, values: &[u32]) -> bool
+pub fn settles(x: u32, values: &[u32]) -> bool
     requires { ⌜ length (now values) ≡ 8 ⌝ }
     ensures { λ b. ⌜ b ≡ settled (now (values .entry)) x ⌝ }
 {

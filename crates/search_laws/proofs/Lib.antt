@@ -4,3 +4,5 @@ pub mod Search
 pub mod Order
 pub mod Counting
 pub mod Exact
+pub mod Alike
+pub mod Relevance

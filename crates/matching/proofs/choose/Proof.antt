@@ -12,7 +12,7 @@ use lib.ListN.{length}
 use Rattle.lists.specs.Lists.{bit, first-of, is-empty}
 use Rattle.lists.proofs.Search.{Only, spent, reached, backed, pruned}
 use Rattle.model.specs.declared.Row.{Row}
-use Rattle.model.specs.Matching.{Found}
+use Rattle.model.specs.Matching.{Found, nothing-found}
 use Rattle.program.specs.Rows.{row-at, rows-of}
 use Rattle.program.proofs.Words.{row-inside}
 use Rattle.queries.specs.View.{found-in, Sized}
@@ -21,16 +21,16 @@ use Rattle.queries.proofs.Answers.{onward-none, onward-one, only-answers, ids-f
 use Rattle.matching.specs.Rules.{reasons-in}
 use Rattle.matching.proofs.Rows.{reasons-next}
 use Rattle.matching.proofs.Rules.{top, fired, fires-all, next-rule, rule-there, rule-small}
-use Rattle.matching.proofs.Firing.{Parts, parts-rise, located, reasons-few, fires-as-it-is, fires-by-answers, match-none, match-one, firing-first, Choosing, choice-ends, not-chosen, Trying}
+use Rattle.matching.proofs.Firing.{Parts, parts-rise, located, reasons-few, fires-as-it-is, fires-by-answers, rest-none, rest-one, match-none, match-one, firing-first, Choosing, choice-ends, not-chosen, Trying}
 use Rattle.matching.proofs.choose.Statement.{statement}
 use Rattle.matching.proofs.choose.Tie as tie
 
 abbrev Inv-candidates : tie.InvT-candidates
-Inv-candidates program words s set f before values₀ matched₀ best₀ n number start r context body end rule once c₀ values matched best c =
-    Trying program words s rule best start r (found-in (f .values) [] 0) once c × Sized values matched × (values ≡ f .values)
+Inv-candidates program words s set f before values₀ matched₀ best₀ n number start r context body end rule once fuel₀ c₀ values matched best fuel c =
+    Trying program words s rule best start r (found-in (f .values) [] 0) once c × Sized values matched × (values ≡ f .values) × (length fuel ≡ 1)
 
 abbrev μ-candidates : tie.MeasureT-candidates
-μ-candidates program words s set f before values₀ matched₀ best₀ n number start r context body end rule once c₀ values matched best c = width s r - c
+μ-candidates program words s set f before values₀ matched₀ best₀ n number start r context body end rule once fuel₀ c₀ values matched best fuel c = width s r - c
 
 abbrev Inv-rules : tie.InvT-rules
 Inv-rules program words s set f before values₀ matched₀ best₀ n number₀ start₀ values matched best number start =
@@ -143,16 +143,18 @@ candidates-holds c =
     let i = p .before .before .before .before .before .before .before in
     let e = i .before .before .before .before in
     let s = e .before .before .before in
-    let a = s .args in (
+    let a = s .args in
+    let z : found-in (e .nothing .result .values) [] 0 ≡ nothing-found = sym (ap (λ (n : ℕ). found-in (e .nothing .result .values) (e .nothing .result .matched) n) (e .nothing .ensures .1)) ∙ e .nothing .ensures .0 in (
       record {
         none = i .rules .inv .0 .none;
         at-first = λ _. refl;
         is = i .rules .inv .0 .is
             ∙ ap first-of (fires-by-answers (a .program .now) (a .set) (i .rules .number) (i .rules .start) (p .before .before .part-end .result) (p .before .part-end2 .result) (p .part-end3 .result) (parts p) (a .words .now) (a .s)
-            (there p) (c .before .if2 .left) (first p) (first-is p) (found-in (e .nothing .result .values) [] 0) (sym (ap (λ (n : ℕ). found-in (e .nothing .result .values) (e .nothing .result .matched) n) (e .nothing .ensures .1)) ∙ e .nothing .ensures .0));
+            (there p) (c .before .if2 .left) (first p) (first-is p) (found-in (e .nothing .result .values) [] 0) z);
       },
       i .rules .inv .1,
       i .rules .inv .2,
+      refl,
     )
 
 next-answer-requires : tie.Need-next-answer-requires Inv-candidates μ-candidates Inv-rules μ-rules
@@ -168,7 +170,7 @@ add-search c = let g = c .before .before .before .before .before .before .before
 
 search-requires : tie.Need-search-requires Inv-candidates μ-candidates Inv-rules μ-rules
 search-requires c κs =
-    let d = c .before .before in
+    let d = c .before .before .before in
     let x = d .before .before in
     let g = x .before .before .before .before .before in
     let p = g .before in
@@ -179,27 +181,44 @@ search-requires c κs =
     let m = few p in
     let k = ids-few (first p) in
     let e = d .given-ids .ensures in
-    (located (a .program .now) (a .set) (i .rules .number) (i .rules .start) (p .before .before .part-end .result) (p .before .part-end2 .result) (p .part-end3 .result) (parts p), s .pre .1, omega arith, x .next-answer .ensures .0)
+    (located (a .program .now) (a .set) (i .rules .number) (i .rules .start) (p .before .before .part-end .result) (p .before .part-end2 .result) (p .part-end3 .result) (parts p), s .pre .1, omega arith, x .next-answer .ensures .0, x .before .before .before .candidates .inv .3)
+
+search-rest-requires : tie.Need-search-rest-requires Inv-candidates μ-candidates Inv-rules μ-rules
+search-rest-requires c κs =
+    let q = c .before .before .before in
+    let l = q .before .before .before .before .before .before .before .before .before in
+    let g = l .before .before in
+    let p = g .before in
+    let i = p .before .before .before .before .before .before .before in
+    let s = i .before .before .before .before .before .before .before in
+    let a = s .args in
+    let v = l .candidates .inv in
+    (located (a .program .now) (a .set) (i .rules .number) (i .rules .start) (p .before .before .part-end .result) (p .before .part-end2 .result) (p .part-end3 .result) (parts p), s .pre .1, g .if2 .left, few p, (sym (ap length (v .2)) ∙ v .1 .0, q .search .ensures .0 .0 .1))
+
+cast-t41 : tie.Need-cast-t41 Inv-candidates μ-candidates Inv-rules μ-rules
+cast-t41 c = search needs
 
 candidates-less : tie.Need-candidates-less Inv-candidates μ-candidates Inv-rules μ-rules
 candidates-less c =
-    let i = c .before .before .before .before .before .before in
+    let i = c .before .before .before .before .before .before .before .before in
     let on = i .before .next-answer .ensures .1 .0 .further (i .if3 .left) in
     omega arith
 
 candidates-again : tie.Need-candidates-again Inv-candidates μ-candidates Inv-rules μ-rules
 candidates-again c =
-    let q = c .before .before in
-    let d = q .before .before .before in
+    let q = c .before .before .before in
+    let d = q .before .before .before .before in
     let l = d .before .before .before .before .before in
-    let v = l .candidates .inv in (
+    let v = l .candidates .inv in
+    let none = c .before .if6 .left in (
       record {
         none = v .0 .none;
-        at-first = λ o. absurd (false≢true (sym (c .if5 .left) ∙ o));
-        is = backed _ _ _ (v .0 .is) _ _ (answered d) _ (firing-first _ _ _ _ _ _ _ (q .search .ensures .1 .0 .is)) (ap (map (fired _)) (match-none _ _ _ (c .before .if4 .left)));
+        at-first = λ o. absurd (false≢true (sym (c .if7 .left) ∙ o));
+        is = backed _ _ _ (v .0 .is) _ _ (answered d) _ (firing-first _ _ _ _ _ _ _ (q .search .ensures .1 .0 .is (omega (arith, none)))) (ap (map (fired _)) (match-none _ _ _ none));
       },
-      (sym (ap length (v .2)) ∙ v .1 .0, q .search .ensures .0 .1),
+      (sym (ap length (v .2)) ∙ v .1 .0, q .search .ensures .0 .0 .1),
       refl,
+      q .search .ensures .0 .1,
     )
 
 add-number : tie.Need-add-number Inv-candidates μ-candidates Inv-rules μ-rules
@@ -239,14 +258,18 @@ rules-again c =
         bound = next-rule (a .program .now) (s .pre .0) (a .set) (i .rules .number) (p .part-end3 .result) (p .part-end3 .ensures);
         is = ⊎-elim
             (λ w. spent _ _ _ (v .0 .is) (n .1 .0 .is ∙ onward-none (answers (a .words .now) (a .s) (first p) f) _ _ (w .0 .taken)))
+            (⊎-elim
+            (λ w. rest-none (v .0) (first-is p) [] (sym (w .9 .ensures .1 .0 .fails (w .10 .taken))) refl)
             (λ w. pruned f _ _ _ (v .0 .is)
-            (subst (λ (k : ℕ). Only f (answers (a .words .now) (a .s) (first p) f k)) (sym (v .0 .at-first (w .6 .taken)))
-            (only-answers _ _ _ _ (sym (o .closes .ensures) ∙ w .6 .taken)))
-            _ _ (answered (record { before = record { before = x; if3 = w .0 }; given-ids = w .1 })) _ (firing-first _ _ _ _ _ _ _ (w .4 .ensures .1 .0 .is)) (ap (map (fired _)) (match-none _ _ _ (w .5 .left))))
+            (subst (λ (k : ℕ). Only f (answers (a .words .now) (a .s) (first p) f k)) (sym (v .0 .at-first (w .8 .taken)))
+            (only-answers _ _ _ _ (sym (o .closes .ensures) ∙ w .8 .taken)))
+            _ _ (answered (record { before = record { before = x; if3 = w .0 }; given-ids = w .1 })) _ (firing-first _ _ _ _ _ _ _ (w .5 .ensures .1 .0 .is (let z = w .7 .left in omega arith))) (ap (map (fired _)) (match-none _ _ _ (w .7 .left)))))
             (c .if3 .came);
       },
-      ⊎-elim (λ w. (ap length (w .1) ∙ n .0 .0, ap length (w .2) ∙ n .0 .1)) (λ w. (ap length (w .7) ∙ sym (ap length (v .2)) ∙ v .1 .0, ap length (w .8) ∙ w .4 .ensures .0 .1)) (c .if3 .came),
-      ⊎-elim (λ w. w .1 ∙ n .1 .1 .0 (w .0 .taken)) (λ w. w .7) (c .if3 .came),
+      ⊎-elim (λ w. (ap length (w .1) ∙ n .0 .0, ap length (w .2) ∙ n .0 .1))
+          (⊎-elim (λ w. (ap length (w .11) ∙ w .9 .ensures .0 .0, ap length (w .12) ∙ w .9 .ensures .0 .1)) (λ w. (ap length (w .9) ∙ sym (ap length (v .2)) ∙ v .1 .0, ap length (w .10) ∙ w .5 .ensures .0 .0 .1)))
+          (c .if3 .came),
+      ⊎-elim (λ w. w .1 ∙ n .1 .1 .0 (w .0 .taken)) (⊎-elim (λ w. w .11 ∙ w .9 .ensures .1 .1 (w .10 .taken)) (λ w. w .9)) (c .if3 .came),
     )
 
 returns : tie.Need-returns Inv-candidates μ-candidates Inv-rules μ-rules
@@ -277,25 +300,39 @@ returns-3 c =
 
 returns-4 : tie.Need-returns-4 Inv-candidates μ-candidates Inv-rules μ-rules
 returns-4 c =
-    let q = c .before in
-    let d = q .before .before .before in
+    let y = c .before in
+    let l = y .before .before .before .before .before .before .before .before .before .before .before .before .before in
+    let p = l .before .before .before in
+    let i = p .before .before .before .before .before .before .before in
+    let a = i .before .before .before .before .before .before .before .args in
+    let long = c .if5 .left in
+    let high = y .search-rest .ensures .1 .0 .high in (
+      rest-one (l .candidates .inv .0) (first-is p) _ (y .search-rest .ensures .1 .0 .finds long) refl,
+      λ _. record { set-is = refl; located = located (a .program .now) (a .set) (i .rules .number) (i .rules .start) (p .before .before .part-end .result) (p .before .part-end2 .result) (p .part-end3 .result) (parts p); few = omega arith },
+    )
+
+returns-5 : tie.Need-returns-5 Inv-candidates μ-candidates Inv-rules μ-rules
+returns-5 c =
+    let q = c .before .before in
+    let d = q .before .before .before .before in
     let l = d .before .before .before .before .before in
     let p = l .before .before .before in
     let i = p .before .before .before .before .before .before .before in
     let a = i .before .before .before .before .before .before .before .args in
     let few = q .search .ensures .1 .0 .few in
-    let m = ap (map (fired (i .rules .number))) (match-one _ _ _ (c .if4 .taken)) in (
-      sym m ∙ reached _ _ _ (l .candidates .inv .0 .is) _ _ (answered d) _ (firing-first _ _ _ _ _ _ _ (q .search .ensures .1 .0 .is)) (ap is-empty m),
+    let going = c .before .if4 .left in
+    let m = ap (map (fired (i .rules .number))) (match-one _ _ _ (c .if6 .taken)) in (
+      sym m ∙ reached _ _ _ (l .candidates .inv .0 .is) _ _ (answered d) _ (firing-first _ _ _ _ _ _ _ (q .search .ensures .1 .0 .is (omega (arith, going)))) (ap is-empty m),
       λ _. record { set-is = refl; located = located (a .program .now) (a .set) (i .rules .number) (i .rules .start) (p .before .before .part-end .result) (p .before .part-end2 .result) (p .part-end3 .result) (parts p); few = omega arith },
     )
 
 given-ids-requires : tie.Need-given-ids-requires Inv-candidates μ-candidates Inv-rules μ-rules
 given-ids-requires c κs = search needs
 
-sub-t33 : tie.Need-sub-t33 Inv-candidates μ-candidates Inv-rules μ-rules
-sub-t33 c = let h = c .if4 .taken in omega arith
+sub-t45 : tie.Need-sub-t45 Inv-candidates μ-candidates Inv-rules μ-rules
+sub-t45 c = let h = c .if6 .taken in omega arith
 
 pub choose-spec : {M : Type 1} → statement M
 choose-spec =
     tie.close
-    (tie.spec Inv-candidates μ-candidates Inv-rules μ-rules nothing-requires first-from-requires rules-holds row-at-requires part-end-requires part-end-requires-2 part-end-requires-3 closes-requires candidates-holds next-answer-requires given-ids-requires add-search search-requires sub-t33 candidates-less candidates-again add-number rules-less rules-again returns returns-2 returns-3 returns-4)
+    (tie.spec Inv-candidates μ-candidates Inv-rules μ-rules nothing-requires first-from-requires rules-holds row-at-requires part-end-requires part-end-requires-2 part-end-requires-3 closes-requires candidates-holds next-answer-requires given-ids-requires add-search search-requires search-rest-requires cast-t41 sub-t45 candidates-less candidates-again add-number rules-less rules-again returns returns-2 returns-3 returns-4 returns-5)
