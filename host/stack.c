@@ -6,22 +6,23 @@
 
 #include "juntiqel.h"
 
-enum { STACK = 1 << 20, PAINT = 0xA5, POINTS = 11 };
+enum { STACK = 1 << 20, PAINT = 0xA5, POINTS = 15 };
 
 static uint32_t program[JQ_PROGRAM], words[JQ_WORDS], scalars[JQ_SCALARS], report[JQ_REPORT];
 static const uint32_t no_rows[1];
 static size_t length;
 static uint32_t refused;
 
-/* A ring of seven between two sides: it does not exist, and the search for it is long. */
-static size_t write_ring(char *text)
+/* A chain of seven whose end is missing, in ten rows, as many as a rule may have: the search for it is long and deep. */
+static size_t write_chain(char *text)
 {
     size_t n = (size_t)sprintf(text, "set rule part op i p a b\n");
     for (int i = 0; i < POINTS; i++)
         for (int j = 0; j < POINTS; j++)
-            n += (size_t)sprintf(text + n, "0 0 0 41 0 1 %d %d\n0 0 0 41 0 1 %d %d\n", i, POINTS + j, POINTS + j, i);
-    for (int k = 0; k < 7; k++)
-        n += (size_t)sprintf(text + n, "1 1 %d 1 -9 1 -%d -%d\n", k < 4 ? 1 : 2, 1 + k, 1 + (k + 1) % 7);
+            n += (size_t)sprintf(text + n, "0 0 0 41 0 1 %d %d\n", i, j);
+    for (int k = 1; k <= 7; k++)
+        n += (size_t)sprintf(text + n, "1 1 %d 1 -9 1 -%d -%d\n", k <= 4 ? 1 : 2, k, k + 1);
+    n += (size_t)sprintf(text + n, "1 1 2 1 -9 1 -1 -2\n1 1 2 1 -9 1 -2 -3\n1 1 2 1 -9 2 -8 -9\n");
     return n + (size_t)sprintf(text + n, "1 1 3 31 0 9 0 0\n");
 }
 
@@ -54,7 +55,7 @@ int main(void)
 {
     static char text[1 << 16];
     unsigned char *stack = aligned_alloc(4096, STACK);
-    size_t n = write_ring(text), alone, taken;
+    size_t n = write_chain(text), alone, taken;
     if (!stack || jq_load((const uint8_t *)text, n, program, JQ_PROGRAM, words, JQ_WORDS, scalars, JQ_SCALARS, report, JQ_REPORT))
         return 1;
     length = report[0] * JQ_ROW;

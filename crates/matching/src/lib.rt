@@ -531,6 +531,40 @@ fn search_rest<'a>(
     }
 }
 
+// The same. A first row that leaves everything as it was needs one answer: then the search is that of the rows behind it.
+fn search_on<'a>(
+    program: &'a [u32],
+    words: &'a [u32],
+    s: Scalars,
+    rule: Rule,
+    k: usize,
+    from: usize,
+    values: &mut [u32; 8],
+    matched: &mut [u32; 4],
+) -> u32
+    requires { ⌜ Located (now program) rule × Limits (now words) s × (k < rule .body) × (reasons-in (now program) k (rule .body) ≤ 4) × Sized (now values) (now matched) ⌝ }
+    ensures sized { λ _. ⌜ Sized (now (values .exit)) (now (matched .exit)) ⌝ }
+    ensures is { λ m. ⌜ RestSearched (bind (answers (now (words .entry)) s (row-at (now (program .entry)) k) (found-in (now (values .entry)) (now (matched .entry)) 0) from) (counted (now (program .entry)) (now (words .entry)) s rule (k + 1))) (now (values .exit)) (now (matched .exit)) m ⌝ }
+    ensures back { λ m. ⌜ (m < no-set → now (values .exit) ≡ now (values .entry)) ⌝ }
+{
+    let before = *values;
+    let r = program::row_at(program, k);
+    if from != 0 {
+        return search_rest(program, words, s, rule, k, from, values, matched);
+    }
+    if rule.body <= k + 1 {
+        return search_rest(program, words, s, rule, k, from, values, matched);
+    }
+    if !queries::closes(r, before) {
+        return search_rest(program, words, s, rule, k, from, values, matched);
+    }
+    if queries::next_answer(words, s, r, 0, before, 0, values, matched) == 0 {
+        return 0;
+    }
+    *values = before;
+    search_on(program, words, s, rule, k + 1, 0, values, matched)
+}
+
 // Whether row k is one of this part.
 fn is_part(program: &[u32], k: usize, set: u32, rule: u32, part: u32) -> bool
     requires { ⌜ k * 8 + 8 ≤ length (now program) ⌝ }
@@ -639,7 +673,7 @@ pub fn choose<'a>(program: &'a [u32], words: &'a [u32], s: Scalars, set: u32) ->
             );
             if m == 6 {
                 values = before;
-                let d = search_rest(
+                let d = search_on(
                     program,
                     words,
                     s,

@@ -183,8 +183,8 @@ search-requires c κs =
     let e = d .given-ids .ensures in
     (located (a .program .now) (a .set) (i .rules .number) (i .rules .start) (p .before .before .part-end .result) (p .before .part-end2 .result) (p .part-end3 .result) (parts p), s .pre .1, omega arith, x .next-answer .ensures .0, x .before .before .before .candidates .inv .3)
 
-search-rest-requires : tie.Need-search-rest-requires Inv-candidates μ-candidates Inv-rules μ-rules
-search-rest-requires c κs =
+search-on-requires : tie.Need-search-on-requires Inv-candidates μ-candidates Inv-rules μ-rules
+search-on-requires c κs =
     let q = c .before .before .before in
     let l = q .before .before .before .before .before .before .before .before .before in
     let g = l .before .before in
@@ -306,8 +306,8 @@ returns-4 c =
     let i = p .before .before .before .before .before .before .before in
     let a = i .before .before .before .before .before .before .before .args in
     let long = c .if5 .left in
-    let high = y .search-rest .ensures .1 .0 .high in (
-      rest-one (l .candidates .inv .0) (first-is p) _ (y .search-rest .ensures .1 .0 .finds long) refl,
+    let high = y .search-on .ensures .1 .0 .high in (
+      rest-one (l .candidates .inv .0) (first-is p) _ (y .search-on .ensures .1 .0 .finds long) refl,
       λ _. record { set-is = refl; located = located (a .program .now) (a .set) (i .rules .number) (i .rules .start) (p .before .before .part-end .result) (p .before .part-end2 .result) (p .part-end3 .result) (parts p); few = omega arith },
     )
 
@@ -335,4 +335,4 @@ sub-t45 c = let h = c .if6 .taken in omega arith
 pub choose-spec : {M : Type 1} → statement M
 choose-spec =
     tie.close
-    (tie.spec Inv-candidates μ-candidates Inv-rules μ-rules nothing-requires first-from-requires rules-holds row-at-requires part-end-requires part-end-requires-2 part-end-requires-3 closes-requires candidates-holds next-answer-requires given-ids-requires add-search search-requires search-rest-requires cast-t41 sub-t45 candidates-less candidates-again add-number rules-less rules-again returns returns-2 returns-3 returns-4 returns-5)
+    (tie.spec Inv-candidates μ-candidates Inv-rules μ-rules nothing-requires first-from-requires rules-holds row-at-requires part-end-requires part-end-requires-2 part-end-requires-3 closes-requires candidates-holds next-answer-requires given-ids-requires add-search search-requires search-on-requires cast-t41 sub-t45 candidates-less candidates-again add-number rules-less rules-again returns returns-2 returns-3 returns-4 returns-5)
