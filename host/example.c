@@ -1,4 +1,4 @@
-/* The run that document 01 prints, through the C interface: load, sense 1 1 3 1200, run 10; then two refusals and the withdrawal.
+/* The run that document 01 prints, through the C interface: load, sense 1 1 3 1200, run 10; then refusals, what is saved, and the withdrawal.
    Prints what happened, and exits with 1 if anything is not as expected. */
 #include <inttypes.h>
 #include <stdio.h>
@@ -76,15 +76,16 @@ static void run(void)
 /* The atoms 1 and 3 and the plan 2 between them. */
 static void show(void)
 {
-    static const uint32_t atoms[] = {1, 1, 3, 1200, 0, 3, 3, 3, 1200, 0};
+    static const uint32_t atoms[][5] = {{1, 1, 3, 1200, 0}, {3, 3, 3, 1200, 0}};
     static const uint32_t plan[] = {2, 1, 1, 1, 0, 3, 1, 0, 0, 0};
     expect("live atoms", scalars[JQ_ATOMS], 2);
     expect("live plans", scalars[JQ_PLANS], 1);
-    expect("atoms as expected", memcmp(words, atoms, sizeof atoms) == 0, 1);
     expect("plan as expected", memcmp(words + JQ_PLANS_AT, plan, sizeof plan) == 0, 1);
     for (uint32_t k = 0; k < scalars[JQ_ATOMS]; k++) {
-        const uint32_t *x = words + k * JQ_ATOM;
-        printf("atom %" PRIu32 ": %" PRIu32 "(%" PRIu32 ", %" PRIu32 ")\n", x[0], x[1], x[2], x[3]);
+        const uint32_t id = words[JQ_ATOM_ID + k], p = words[JQ_ATOM_P + k], a = words[JQ_ATOM_A + k], b = words[JQ_ATOM_B + k];
+        const uint32_t x[] = {id, p, a, b, words[JQ_ATOM_CYCLE + k]};
+        expect("atom as expected", k < 2 && memcmp(x, atoms[k], sizeof x) == 0, 1);
+        printf("atom %" PRIu32 ": %" PRIu32 "(%" PRIu32 ", %" PRIu32 ")\n", id, p, a, b);
     }
     for (uint32_t k = 0; k < scalars[JQ_PLANS]; k++) {
         const uint32_t *q = words + JQ_PLANS_AT + k * JQ_PLAN;
@@ -110,6 +111,18 @@ static void refusals(void)
     expect("scalars unchanged", memcmp(scalars_before, scalars, sizeof scalars) == 0, 1);
 }
 
+/* What a host saves is tested when it comes back: whole it is a configuration of the program, without its program it is not. */
+static void saved(void)
+{
+    static uint32_t kept[JQ_WORDS];
+    memcpy(kept, words, sizeof words);
+    expect("check", jq_check(program, used, kept, JQ_WORDS, scalars, JQ_SCALARS), 0);
+    expect("check without the rules", jq_check(program, JQ_ROW, kept, JQ_WORDS, scalars, JQ_SCALARS), JQ_NOT_WELL_FORMED);
+    expect("check of too few words", jq_check(program, used, kept, JQ_WORDS - 1, scalars, JQ_SCALARS), JQ_NOT_WELL_FORMED);
+    expect("words unchanged by a check", memcmp(kept, words, sizeof words) == 0, 1);
+    printf("saved and checked, version %d\n", JQ_VERSION);
+}
+
 int main(void)
 {
     load();
@@ -118,6 +131,7 @@ int main(void)
     run();
     show();
     refusals();
+    saved();
     sense(2, 0, 3);
     expect("atoms left", scalars[JQ_ATOMS], 0);
     expect("plans left", scalars[JQ_PLANS], 0);

@@ -14,14 +14,22 @@
             any (-9) is 0, variables 1 to 8 (-1 to -8) are 8 to 1, a constant n is n + 9.
             jq_load wants room for JQ_PROGRAM words and reports how many rows it used; all later calls are given the
             first rows * JQ_ROW words and that length.
-   words    JQ_WORDS words: 256 atoms of JQ_ATOM words from 0 on (id p a b cycle), then 64 plans of JQ_PLAN words from
-            JQ_PLANS_AT on (id set rule left flags subgoal, four justifications, eight values). Both in rising id. A
-            subgoal is an atom's id or 0. Justifications are atoms' ids, rising, with 0 behind the last. A value is
+   words    JQ_WORDS words: 256 atoms by columns, then 64 plans of JQ_PLAN words from JQ_PLANS_AT on (id set rule left flags
+            subgoal, four justifications, eight values). Atom k has its id at words[JQ_ATOM_ID + k], p at words[JQ_ATOM_P + k],
+            a at words[JQ_ATOM_A + k], b at words[JQ_ATOM_B + k] and its cycle at words[JQ_ATOM_CYCLE + k]. Both in rising
+            id. A subgoal is an atom's id or 0. Justifications are atoms' ids, rising, with 0 behind the last. A value is
             JQ_NO_VALUE where the variable has none. Flag f has weight 2^(f-1): 1 intended, 2 scheduled, 3 stepped,
-            4 failed. Words behind the last live atom or plan may hold anything.
+            4 failed. Words behind the last live atom of a column, or behind the last live plan, may hold anything.
    scalars  JQ_SCALARS words, enum jq_scalar.
    report   JQ_REPORT words. [0] made and [1] gone: how many atoms and plans the call made and removed. Then what it
-            did, at each call below. Words that are not named are 0. */
+            did, at each call below. Words that are not named are 0.
+
+   What is saved. A configuration is its words and scalars; a host that saves them keeps the program and JQ_VERSION beside them.
+   Words that were saved under another version are not handed in: nothing converts them, jq_load begins the configuration again.
+   jq_check says whether what was saved is still a program and a configuration of it.
+
+   Without the tests. The library has the same calls without the tests of JQ_NOT_WELL_FORMED, for a language whose types guarantee
+   what they test; they are not declared here, and README.md beside this file says how the Rust crate uses them. */
 #ifndef JUNTIQEL_H
 #define JUNTIQEL_H
 
@@ -33,10 +41,15 @@ extern "C" {
 #endif
 
 enum {
+    JQ_VERSION = 2, /* of the layout of what is saved */
     JQ_PROGRAM = 4096,
     JQ_ROW = 8,
     JQ_WORDS = 2432,
-    JQ_ATOM = 5,
+    JQ_ATOM_ID = 0, /* where each column of the atoms begins */
+    JQ_ATOM_P = 256,
+    JQ_ATOM_A = 512,
+    JQ_ATOM_B = 768,
+    JQ_ATOM_CYCLE = 1024,
     JQ_PLANS_AT = 1280,
     JQ_PLAN = 18,
     JQ_SCALARS = 6,
@@ -98,6 +111,12 @@ uint64_t jq_load(const uint8_t *text, size_t text_length,
                  uint32_t *words, size_t words_length,
                  uint32_t *scalars, size_t scalars_length,
                  uint32_t *report, size_t report_length);
+
+/* For what was saved: 0 if program and configuration are well formed together, else JQ_NOT_WELL_FORMED, also for wrong lengths.
+   All later calls test this themselves. */
+uint32_t jq_check(const uint32_t *program, size_t program_length,
+                  const uint32_t *words, size_t words_length,
+                  const uint32_t *scalars, size_t scalars_length);
 
 /* Readings, in phase 0: up to 64 rows of four words, sign (1 add, 2 withdraw), p, a, b. rows_length counts words. */
 uint32_t jq_sense(const uint32_t *program, size_t program_length,

@@ -1,57 +1,42 @@
-//! How long the calls of the proved library take beside those of the plain interpreter, as one table.
+//! How long the calls of the proved library take beside those of the tight baseline: one table, from one run.
 //!
-//! Both sides are given the same calls from the same start, in turn within one run, round after round over all lines. A figure is
-//! the least of all rounds; what it takes to copy the start is measured alone and subtracted on both sides. By value each call is
-//! given a copy of the configuration, and the copy is part of its time. Lines at which the plain interpreter would not end are the
-//! library's alone. `compare [ROUNDS]`
+//! Every side works the same lists of calls, round after round, all sides of a workload in turn, so that a slow moment of the machine
+//! does not hit one side alone. A figure is the least of all rounds, for one timed call. The configurations on the way are folded into
+//! a digest; where one is not as the reference model has it the command fails. Then come long searches of the library alone, at which
+//! a plain search would not end. `compare [ROUNDS]`
 
 #![forbid(unsafe_code)]
 
-mod lines;
-mod programs;
+mod digest;
+mod searches;
 mod sides;
 mod slow;
+mod table;
 mod timing;
+mod workloads;
 
-use lines::Work;
-use timing::{Pair, Way};
+use std::process::ExitCode;
 
-const ROUNDS: usize = 60;
+use searches::Search;
+use timing::Timed;
 
-fn main() {
+const ROUNDS: usize = 30;
+
+fn main() -> ExitCode {
     let rounds = std::env::args().nth(1).and_then(|n| n.parse().ok());
-    let lines = lines::all();
-    let mut in_place: Vec<_> = lines.iter().map(|l| Pair::new(l, Way::InPlace)).collect();
-    let mut by_value: Vec<_> = lines.iter().map(|l| Pair::new(l, Way::ByValue)).collect();
+    let workloads = workloads::all();
+    let mut timed: Vec<_> = workloads.iter().map(Timed::new).collect();
+    let mut searches: Vec<_> = slow::all().into_iter().map(Search::new).collect();
     for _ in 0..rounds.unwrap_or(ROUNDS) {
-        in_place.iter_mut().for_each(Pair::repeat);
-        by_value.iter_mut().for_each(Pair::repeat);
+        timed.iter_mut().for_each(Timed::repeat);
+        searches.iter_mut().for_each(Search::repeat);
     }
-    println!("| what | proved | plain | ratio | by value: proved | plain | ratio |");
-    println!("|---|---|---|---|---|---|---|");
-    for ((line, in_place), by_value) in lines.iter().zip(in_place).zip(by_value) {
-        let by_value = match line.work {
-            Work::Calls(_) if line.beside => cells(by_value.seconds()),
-            _ => "| | |".into(),
-        };
-        println!("| {} {} {by_value} |", line.name, cells(in_place.seconds()));
-    }
-}
-
-/// Two times and their ratio.
-fn cells((proved, plain): (f64, Option<f64>)) -> String {
-    let Some(plain) = plain else {
-        return format!("| {} | | ", shown(proved));
-    };
-    let ratio = proved / plain;
-    format!("| {} | {} | {ratio:.2}", shown(proved), shown(plain))
-}
-
-/// Seconds in a unit that suits them.
-fn shown(seconds: f64) -> String {
-    match seconds * 1e6 {
-        us if us < 100.0 => format!("{us:.2} µs"),
-        us if us < 10_000.0 => format!("{us:.0} µs"),
-        us => format!("{:.1} ms", us / 1e3),
-    }
+    table::print(&timed);
+    println!();
+    searches::print(&searches);
+    let wrong: Vec<_> = timed.iter().flat_map(Timed::differences).collect();
+    wrong
+        .iter()
+        .for_each(|difference| eprintln!("{difference}"));
+    ExitCode::from(u8::from(!wrong.is_empty()))
 }

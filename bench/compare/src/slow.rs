@@ -1,8 +1,16 @@
 //! Searches that would not end if every way were tried: for each a program that holds its atoms from the start.
 
-use crate::lines::{Line, Work};
-use crate::programs::NAMES;
-use crate::sides::Call;
+use crate::workloads::Call;
+
+pub struct Line {
+    pub name: String,
+    /// Calls that lead to the start.
+    pub before: Vec<Call>,
+    /// What is timed.
+    pub work: Call,
+    /// How many atoms and plans live afterwards: the work is what its name says.
+    pub left: [u32; 2],
+}
 
 /// set rule part op i p a b, as written.
 type Row = [i64; 8];
@@ -39,9 +47,12 @@ pub fn all() -> Vec<Line> {
     ]
 }
 
-fn text(rows: &[Row]) -> String {
+/// The load of the rows, and the sense that begins the cycle.
+fn begun(rows: &[Row]) -> Vec<Call> {
     let line = |r: &Row| r.map(|n| n.to_string()).join(" ") + "\n";
-    NAMES.to_string() + &rows.iter().map(line).collect::<String>()
+    let lines: String = rows.iter().map(line).collect();
+    let text = format!("set rule part op i p a b\n{lines}");
+    vec![Call::Load(text.into_bytes()), Call::Sense(vec![])]
 }
 
 fn atom(p: i64, a: i64, b: i64) -> Row {
@@ -68,11 +79,9 @@ fn fails(name: &str, rows: Vec<Row>) -> Line {
     let atoms = rows.iter().filter(|r| r[0] == 0).count() as u32;
     Line {
         name: format!("step, {name}"),
-        text: text(&rows),
-        before: vec![Call::Sense(vec![])],
-        work: Work::Calls(vec![Call::Step]),
-        left: (atoms, 0),
-        beside: false,
+        before: begun(&rows),
+        work: Call::Step,
+        left: [atoms, 0],
     }
 }
 
@@ -92,11 +101,9 @@ fn everyday(count: i64) -> Line {
     ]);
     Line {
         name: format!("run to the first action, {count} jobs, blanks, cutters, clamps"),
-        text: text(&rows),
-        before: vec![Call::Sense(vec![])],
-        work: Work::Calls(vec![Call::Run(10_000)]),
-        left: (4 * count as u32, count as u32),
-        beside: false,
+        before: begun(&rows),
+        work: Call::Run(10_000),
+        left: [4 * count as u32, count as u32],
     }
 }
 
@@ -130,7 +137,7 @@ fn with_plans(name: &str, rows: Vec<Row>) -> Line {
     let plans = rows.iter().filter(|r| r[0] == 0 && r[5] == 1).count();
     let mut line = fails(name, rows);
     line.before.extend((0..plans).map(|_| Call::Step));
-    line.left.1 = plans as u32;
+    line.left[1] = plans as u32;
     line
 }
 

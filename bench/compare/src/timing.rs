@@ -1,147 +1,149 @@
-//! The time of a line's work on one side, and of both sides in turn.
+//! The time of a workload on every side.
 
-use std::hint::black_box;
 use std::time::{Duration, Instant};
 
-use plain::Config;
+use tight::Options;
 
-use crate::lines::{Line, Work};
-use crate::sides::{Proved, Side, Standing};
+use crate::digest::Digest;
+use crate::sides::{Side, Tested, Tight, Untested};
+use crate::workloads::{Line, Workload};
 
-/// A repetition does the work as often as fits into this time.
-const REPETITION: Duration = Duration::from_millis(2);
-/// A line is not repeated beyond this time.
-const LINE: Duration = Duration::from_millis(900);
+/// In a round a side works its list again and again for this time, and so many times at least: the first finds the machine's caches as
+/// another side has left them.
+const TURN: Duration = Duration::from_millis(4);
+const TIMES: usize = 5;
 
-/// How the calls are made.
-#[derive(Clone, Copy, PartialEq)]
-pub enum Way {
-    /// On one configuration, which they change.
-    InPlace,
-    /// Each on a copy of its own, so that the configuration before it is kept.
-    ByValue,
+/// The sides by their place in the table.
+pub const SIDES: [&str; 5] = [
+    "tight",
+    "tight without test",
+    "tight, better search",
+    "proved",
+    "proved without test",
+];
+pub const TIGHT: usize = 0;
+pub const TIGHT_WITHOUT: usize = 1;
+pub const PROVED: usize = 3;
+pub const PROVED_WITHOUT: usize = 4;
+
+/// What came of a list of calls.
+#[derive(Clone, Copy)]
+struct Played {
+    /// Inside the timer.
+    time: Duration,
+    calls: u32,
+    refused: u32,
+    digest: u64,
 }
 
-/// Both sides of a line, or the proved one alone.
-pub struct Pair<'a> {
-    proved: Bench<'a, Proved>,
-    plain: Option<Bench<'a, Config>>,
-    taken: Duration,
-}
-
-impl<'a> Pair<'a> {
-    /// Both sides come to the same, and that is what the line says.
-    pub fn new(line: &'a Line, way: Way) -> Self {
-        let proved: Bench<Proved> = Bench::new(line, way);
-        let plain: Option<Bench<Config>> = line.beside.then(|| Bench::new(line, way));
-        if let Some(plain) = &plain {
-            assert_eq!(proved.end, plain.end, "{}", line.name);
+/// A list from its first line, which is a load, to its last.
+fn play(side: &mut impl Side, lines: &[Line]) -> Played {
+    let mut digest = Digest::new();
+    let mut played = Played {
+        time: Duration::ZERO,
+        calls: 0,
+        refused: 0,
+        digest: 0,
+    };
+    let mut is_on = false;
+    let mut clock = Instant::now();
+    for line in lines {
+        match line {
+            Line::Call(call) => {
+                played.refused += u32::from(!side.call(call));
+                played.calls += u32::from(is_on);
+            }
+            Line::Timer(true) => {
+                is_on = true;
+                clock = Instant::now();
+            }
+            Line::Timer(false) => {
+                played.time += clock.elapsed();
+                is_on = false;
+            }
+            Line::Digest => digest.fold(&side.picture().0),
         }
-        let [.., atoms, plans] = proved.end;
-        assert_eq!((atoms, plans), line.left, "{}", line.name);
-        Pair {
-            proved,
-            plain,
-            taken: Duration::ZERO,
+    }
+    played.digest = digest.0;
+    played
+}
+
+/// A workload with the least time of every side.
+pub struct Timed<'a> {
+    pub workload: &'a Workload,
+    tight: [Tight; 3],
+    tested: Tested,
+    untested: Untested,
+    best: [Option<Played>; SIDES.len()],
+    /// The first that was not as expected.
+    wrong: [Option<Played>; SIDES.len()],
+}
+
+impl<'a> Timed<'a> {
+    pub fn new(workload: &'a Workload) -> Self {
+        let tight = |trust, plus| Tight::new(Options { trust, plus });
+        Timed {
+            workload,
+            tight: [tight(false, false), tight(true, false), tight(false, true)],
+            tested: Tested::new(),
+            untested: Untested::new(),
+            best: [None; SIDES.len()],
+            wrong: [None; SIDES.len()],
         }
     }
 
-    /// One repetition of each side, unless the line has had its time.
+    /// A turn of every side.
     pub fn repeat(&mut self) {
-        if self.taken > LINE {
-            return;
+        for k in 0..SIDES.len() {
+            let start = Instant::now();
+            (0..TIMES).for_each(|_| self.play(k));
+            while start.elapsed() < TURN {
+                self.play(k);
+            }
         }
-        let clock = Instant::now();
-        self.proved.repeat();
-        if let Some(plain) = &mut self.plain {
-            plain.repeat();
-        }
-        self.taken += clock.elapsed();
     }
 
-    /// The least seconds of the proved side and of the plain one.
-    pub fn seconds(&self) -> (f64, Option<f64>) {
-        let plain = self.plain.as_ref();
-        (self.proved.seconds(), plain.map(Bench::seconds))
-    }
-}
-
-struct Bench<'a, S: Side> {
-    line: &'a Line,
-    way: Way,
-    program: S::Program,
-    start: S,
-    state: S,
-    /// Where the work leads to.
-    end: Standing,
-    /// How often a repetition does the work.
-    times: u32,
-    /// The least times of a repetition: copies of the start with the work, and alone.
-    with_work: Duration,
-    alone: Duration,
-}
-
-impl<'a, S: Side> Bench<'a, S> {
-    fn new(line: &'a Line, way: Way) -> Self {
-        let (program, mut start) = S::load(line.text.as_bytes());
-        line.before
-            .iter()
-            .for_each(|call| start.call(&program, call));
-        let mut bench = Bench {
-            line,
-            way,
-            program,
-            state: start.clone(),
-            end: start.standing(),
-            start,
-            times: 1,
-            with_work: Duration::MAX,
-            alone: Duration::MAX,
+    fn play(&mut self, k: usize) {
+        let lines = &self.workload.lines;
+        let played = match k {
+            PROVED => play(&mut self.tested, lines),
+            PROVED_WITHOUT => play(&mut self.untested, lines),
+            _ => play(&mut self.tight[k], lines),
         };
-        bench.work();
-        bench.end = bench.state.standing();
-        // the least of a few, since one may have been interrupted
-        let once = (0..5).map(|_| bench.time(true).as_nanos()).min();
-        let once = once.map_or(1, |nanoseconds| nanoseconds.max(1));
-        bench.times = (REPETITION.as_nanos() / once).clamp(1, 10_000) as u32;
-        bench
+        if played.refused != 0 || played.digest != self.workload.digest {
+            self.wrong[k].get_or_insert(played);
+        }
+        match &mut self.best[k] {
+            Some(best) if best.time <= played.time => {}
+            best => *best = Some(played),
+        }
     }
 
-    fn work(&mut self) {
-        let calls = match &self.line.work {
-            Work::Load => {
-                let text = black_box(self.line.text.as_bytes());
-                return self.state.load_again(&mut self.program, text);
-            }
-            Work::Calls(calls) => calls,
+    pub fn calls(&self) -> u32 {
+        self.best[TIGHT].map_or(0, |played| played.calls)
+    }
+
+    /// The least seconds of a timed call.
+    pub fn seconds(&self, side: usize) -> f64 {
+        let played = self.best[side].expect("every side has had a turn");
+        played.time.as_secs_f64() / f64::from(played.calls)
+    }
+
+    /// Which sides came to another end than the reference model.
+    pub fn differences(&self) -> impl Iterator<Item = String> + '_ {
+        let told = |(side, wrong): (&str, &Option<Played>)| {
+            let Played {
+                refused, digest, ..
+            } = (*wrong)?;
+            let Workload {
+                name,
+                digest: expected,
+                ..
+            } = self.workload;
+            Some(format!(
+                "{name}, {side}: {refused} calls refused, digest {digest:016x}, expected {expected:016x}"
+            ))
         };
-        for call in calls {
-            if self.way == Way::ByValue {
-                self.state = black_box(self.state.clone());
-            }
-            self.state.call(&self.program, call);
-        }
-    }
-
-    fn time(&mut self, has_work: bool) -> Duration {
-        let clock = Instant::now();
-        for _ in 0..self.times {
-            self.state.reset(black_box(&self.start));
-            if has_work {
-                self.work();
-            }
-            black_box(&mut self.state);
-        }
-        clock.elapsed()
-    }
-
-    fn repeat(&mut self) {
-        self.with_work = self.with_work.min(self.time(true));
-        self.alone = self.alone.min(self.time(false));
-    }
-
-    fn seconds(&self) -> f64 {
-        let work = self.with_work.saturating_sub(self.alone);
-        work.as_secs_f64() / f64::from(self.times)
+        SIDES.into_iter().zip(&self.wrong).filter_map(told)
     }
 }

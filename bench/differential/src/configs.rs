@@ -1,9 +1,13 @@
 //! Configurations: between the words of the library and those of the plain interpreter; built near the limits; damaged.
 
-use juntiqel::raw::{ATOM, OPERAND, PLAN, PLANS_AT, ROW, SCALARS, WORDS};
+use juntiqel::raw::{ATOM_A, ATOM_B, ATOM_CYCLE, ATOM_ID, ATOM_P};
+use juntiqel::raw::{OPERAND, PLAN, PLANS_AT, ROW, SCALARS, WORDS};
 use plain::{Atom, Config, Plan, Program, Row, MAX_ATOMS, MAX_NEXT, MAX_PLANS, NO_VALUE};
 
 use crate::random::Random;
+
+/// Where each column of the atoms begins.
+const COLUMNS: [usize; 5] = [ATOM_ID, ATOM_P, ATOM_A, ATOM_B, ATOM_CYCLE];
 
 /// A configuration as the library is lent it.
 #[derive(Clone, Debug, PartialEq, Eq)]
@@ -52,19 +56,20 @@ pub fn program_of(words: &[u32]) -> Option<Program> {
 /// The live configuration. Counts above the limits are given one instance too many, which is not well formed either.
 pub fn config_of(words: &[u32], scalars: &[u32]) -> Config {
     let live = |count: u32, limit: usize| (count as usize).min(limit + 1);
-    let (atoms, plans) = words.split_at(PLANS_AT);
-    let record = |table: &[u32], width: usize, k: usize| {
-        let from = k * width;
-        table
-            .get(from..from + width)
-            .map_or(vec![0; width], <[u32]>::to_vec)
+    let atom = |k: usize| match k {
+        MAX_ATOMS.. => [0; 5],
+        _ => COLUMNS.map(|column| words[column + k]),
+    };
+    let plan = |k: usize| match k {
+        MAX_PLANS.. => &[0; PLAN],
+        _ => &words[PLANS_AT + k * PLAN..][..PLAN],
     };
     Config {
         atoms: (0..live(scalars[4], MAX_ATOMS))
-            .map(|k| atom_of(&record(atoms, ATOM, k)))
+            .map(|k| atom_of(atom(k)))
             .collect(),
         plans: (0..live(scalars[5], MAX_PLANS))
-            .map(|k| plan_of(&record(plans, PLAN, k)))
+            .map(|k| plan_of(plan(k)))
             .collect(),
         phase: scalars[0],
         cycle: scalars[1],
@@ -73,14 +78,8 @@ pub fn config_of(words: &[u32], scalars: &[u32]) -> Config {
     }
 }
 
-fn atom_of(w: &[u32]) -> Atom {
-    Atom {
-        id: w[0],
-        p: w[1],
-        a: w[2],
-        b: w[3],
-        cycle: w[4],
-    }
+fn atom_of([id, p, a, b, cycle]: [u32; 5]) -> Atom {
+    Atom { id, p, a, b, cycle }
 }
 
 fn plan_of(w: &[u32]) -> Plan {
@@ -96,7 +95,7 @@ fn plan_of(w: &[u32]) -> Plan {
     }
 }
 
-pub fn atom_words(x: &Atom) -> [u32; ATOM] {
+pub fn atom_words(x: &Atom) -> [u32; 5] {
     [x.id, x.p, x.a, x.b, x.cycle]
 }
 
@@ -113,11 +112,13 @@ impl Image {
     pub fn of(config: &Config, random: &mut Random) -> Self {
         let filler = random.one_of(&[0, 1, u32::MAX]);
         let mut words = Box::new([filler; WORDS]);
-        let (atoms, plans) = words.split_at_mut(PLANS_AT);
-        for (place, x) in atoms.chunks_exact_mut(ATOM).zip(&config.atoms) {
-            place.copy_from_slice(&atom_words(x));
+        for (k, x) in config.atoms.iter().enumerate().take(MAX_ATOMS) {
+            for (column, word) in COLUMNS.into_iter().zip(atom_words(x)) {
+                words[column + k] = word;
+            }
         }
-        for (place, q) in plans.chunks_exact_mut(PLAN).zip(&config.plans) {
+        let places = words[PLANS_AT..].chunks_exact_mut(PLAN);
+        for (place, q) in places.zip(&config.plans) {
             place.copy_from_slice(&plan_words(q));
         }
         let counts = [config.atoms.len() as u32, config.plans.len() as u32];
@@ -139,21 +140,35 @@ impl Image {
         let plans = (self.scalars[5] as usize).min(MAX_PLANS);
         let atoms = (self.scalars[4] as usize).min(MAX_ATOMS);
         match random.below(6) {
-            0 if plans > 1 => liken(random, &mut self.words[PLANS_AT..], PLAN, plans),
-            1 if atoms > 1 => liken(random, &mut self.words[..PLANS_AT], ATOM, atoms),
+            0 if plans > 1 => {
+                let places: Vec<_> = (PLANS_AT..).take(PLAN).collect();
+                self.liken(random, &places, PLAN, plans);
+            }
+            1 if atoms > 1 => self.liken(random, &COLUMNS, 1, atoms),
             _ => self.damage_word(random),
         }
     }
 
+    /// A record becomes like another, at times but for its id. The first has its words at the places given, the next so far behind.
+    fn liken(&mut self, random: &mut Random, places: &[usize], behind: usize, count: usize) {
+        let (j, k) = (random.below(count), random.below(count));
+        let from = usize::from(!random.once_in(4));
+        for place in &places[from..] {
+            self.words[place + k * behind] = self.words[place + j * behind];
+        }
+    }
+
     fn damage_word(&mut self, random: &mut Random) {
-        let atoms = (self.scalars[4] as usize).min(MAX_ATOMS) * ATOM;
+        let live = (self.scalars[4] as usize).min(MAX_ATOMS);
+        let atoms = live * COLUMNS.len();
         let plans = (self.scalars[5] as usize).min(MAX_PLANS) * PLAN;
         let all = 2 * SCALARS + atoms + 2 * plans;
         let k = random.below(all);
         let place = if k < 2 * SCALARS {
             &mut self.scalars[k / 2]
         } else if k < 2 * SCALARS + atoms {
-            &mut self.words[k - 2 * SCALARS]
+            let k = k - 2 * SCALARS;
+            &mut self.words[COLUMNS[k / live] + k % live]
         } else {
             &mut self.words[PLANS_AT + (k - 2 * SCALARS - atoms) / 2]
         };
@@ -166,13 +181,6 @@ impl Image {
             _ => random.below(9) as u32,
         };
     }
-}
-
-/// A record becomes like another, at times but for its id.
-fn liken(random: &mut Random, table: &mut [u32], width: usize, count: usize) {
-    let (j, k) = (random.below(count), random.below(count));
-    let from = usize::from(!random.once_in(4));
-    table.copy_within(j * width + from..(j + 1) * width, k * width + from);
 }
 
 /// An object rule, for plans.

@@ -12,6 +12,8 @@ pub struct Counts {
     pub calls: u64,
     /// By call and number, 0 for accepted ones.
     answers: BTreeMap<(&'static str, u32), u64>,
+    /// The same of the calls without a test.
+    without_test: BTreeMap<(&'static str, u32), u64>,
     steps: BTreeMap<&'static str, u64>,
     /// By reason and the refusal's number.
     stops: BTreeMap<(&'static str, u32), u64>,
@@ -69,14 +71,11 @@ impl Counts {
     }
 
     pub fn call(&mut self, call: &Call, number: u32) {
-        let name = match call {
-            Call::Sense(_) => "sense",
-            Call::Step => "step",
-            Call::Answer(_) => "answer",
-            Call::Delete(_) => "delete",
-            Call::Run(_) => "run",
-        };
-        self.answer(name, number);
+        self.answer(name(call), number);
+    }
+
+    pub fn without_test(&mut self, call: &Call, number: u32) {
+        *self.without_test.entry((name(call), number)).or_default() += 1;
     }
 
     fn answer(&mut self, name: &'static str, number: u32) {
@@ -131,11 +130,19 @@ impl Counts {
 
     /// The answers that were never met.
     pub fn missing(&self) -> Vec<String> {
-        let answers = ANSWERS
-            .into_iter()
-            .flat_map(|(name, numbers)| numbers.iter().map(move |&n| (name, n)))
+        let every = || {
+            let numbers = |(name, numbers): (&'static str, &'static [u32])| {
+                numbers.iter().map(move |&number| (name, number))
+            };
+            ANSWERS.into_iter().flat_map(numbers)
+        };
+        let answers = every()
             .filter(|answer| !self.answers.contains_key(answer))
             .map(|(name, number)| format!("{name} {number}"));
+        let without_test = every()
+            .filter(|&(name, number)| can_be_without_test(name, number))
+            .filter(|answer| !self.without_test.contains_key(answer))
+            .map(|(name, number)| format!("{name} {number} without test"));
         let steps = STEPS
             .into_iter()
             .filter(|step| !self.steps.contains_key(step))
@@ -148,6 +155,7 @@ impl Counts {
             .into_iter()
             .filter(|name| !self.lent.contains_key(name))
             .map(str::to_string);
+        let answers = answers.chain(without_test);
         answers.chain(steps).chain(stops).chain(lent).collect()
     }
 
@@ -163,6 +171,21 @@ impl Counts {
         }
         refusals
     }
+}
+
+fn name(call: &Call) -> &'static str {
+    match call {
+        Call::Sense(_) => "sense",
+        Call::Step => "step",
+        Call::Answer(_) => "answer",
+        Call::Delete(_) => "delete",
+        Call::Run(_) => "run",
+    }
+}
+
+/// Without a test nothing is refused with 1, a load always tests, and a controller's answer is in range.
+fn can_be_without_test(name: &str, number: u32) -> bool {
+    name != "load" && number != 1 && (name, number) != ("answer", 7)
 }
 
 impl fmt::Display for Counts {
@@ -189,6 +212,8 @@ impl fmt::Display for Counts {
         writeln!(f, "lent: {}", lent.join(", "))?;
         let refusal = |(number, count)| format!("{number}: {count}");
         let refusals: Vec<_> = self.refusals().into_iter().map(refusal).collect();
-        writeln!(f, "refusals by number: {}", refusals.join(", "))
+        writeln!(f, "refusals by number: {}", refusals.join(", "))?;
+        let without_test: u64 = self.without_test.values().sum();
+        writeln!(f, "calls again without test: {without_test}")
     }
 }

@@ -1,6 +1,7 @@
 //! The proved library against the plain interpreter: both are given the same programs, configurations and calls, made at random from
 //! a seed. The number, the report and the whole live configuration must be equal after every call; a refused call must leave every
-//! lent word as it was; and every answer that a call can give must have been met.
+//! lent word as it was; and every answer that a call can give must have been met. Where program and configuration are well formed the
+//! library's call without a test does the same again, on a copy, and must come to the same answer and the same words.
 //!
 //! `differential [--calls N] [--seed S] [--case K]`: at least N calls, or case K of seed S alone. A difference prints the seed, the
 //! case and the shortest script that still shows it, and ends with 1.
@@ -9,6 +10,7 @@
 
 mod cases;
 mod configs;
+mod controlled;
 mod counts;
 mod pair;
 mod programs;

@@ -4,9 +4,11 @@ use std::any::Any;
 use std::panic::{catch_unwind, AssertUnwindSafe};
 
 use juntiqel::raw::{self, PROGRAM, REPORT, SCALARS, WORDS};
+use juntiqel::Controller;
 use plain::{Changed, Config, Did, How, Made, Program, Run, Step, Stop};
 
 use crate::configs::{config_of, program_of, words_of};
+use crate::controlled;
 use crate::counts::Counts;
 use crate::script::{Call, Item, Longer};
 
@@ -249,7 +251,53 @@ impl Pair {
             self.proved.program.words(),
             before.program.words(),
         )?;
-        self.is_equal()
+        self.is_equal()?;
+        // what is lent for the report is beyond what a check and a controller are given
+        if longer.report == 0 {
+            return self.is_equal_without_test(before, call, longer, number, counts);
+        }
+        Ok(())
+    }
+
+    /// The check of what was there before, and the same call without a test, if it is well formed: both as the tested call says, and
+    /// what the call leaves is well formed again.
+    fn is_equal_without_test(
+        &self,
+        mut before: Proved,
+        call: &Call,
+        longer: Longer,
+        number: u32,
+        counts: &mut Counts,
+    ) -> Result<(), Difference> {
+        let program = before.program.lent(longer.program);
+        let words = before.words.lent(longer.words);
+        let scalars = before.scalars.lent(longer.scalars);
+        let refused = u32::from(number == 1);
+        same("the check", raw::check(program, words, scalars), refused)?;
+        let mut controller = match Controller::restore(program, words, scalars) {
+            Err(refusal) => return same("what restores", refusal.number, refused),
+            Ok(controller) => controller,
+        };
+        same("what restores", 0, refused)?;
+        let Some(answer) = controlled::work(&mut controller, call) else {
+            return Ok(());
+        };
+        same("without test", answer.err().unwrap_or(0), number)?;
+        if let Ok(report) = answer {
+            let of_tested = self.proved.report.words();
+            same("the report without test", &report[..], of_tested)?;
+        }
+        let (words, scalars) = (controller.words(), controller.scalars());
+        let of_tested = self.proved.scalars.words();
+        same("the scalars without test", &scalars[..], of_tested)?;
+        // the first place that differs tells more than all words
+        let mut places = words.iter().zip(self.proved.words.words());
+        let place = places.position(|(word, of_tested)| word != of_tested);
+        same("the first word that differs without test", place, None)?;
+        let left = raw::check(controller.program(), words, scalars);
+        same("the check of what is left", left, 0)?;
+        counts.without_test(call, number);
+        Ok(())
     }
 
     fn is_untouched(&self, before: &Proved) -> Result<(), Difference> {
@@ -273,12 +321,13 @@ fn message(panic: &dyn Any) -> &str {
         .unwrap_or("without words")
 }
 
-fn same<T: PartialEq + std::fmt::Debug>(what: &str, proved: T, plain: T) -> Result<(), Difference> {
-    if proved == plain {
+/// One is the proved library's, the other what it should be: the plain interpreter's, or the tested call's.
+fn same<T: PartialEq + std::fmt::Debug>(what: &str, proved: T, other: T) -> Result<(), Difference> {
+    if proved == other {
         return Ok(());
     }
     Err(Difference(format!(
-        "{what}: proved {proved:?}, plain {plain:?}"
+        "{what}: proved {proved:?}, it should be {other:?}"
     )))
 }
 

@@ -1,4 +1,4 @@
-//! A hand-written interpreter of document 01: the baseline of the benchmark, and an oracle for differential tests. Not proved.
+//! A hand-written interpreter of document 01: the oracle of the differential test. Not proved.
 //!
 //! [`load`] reads a program text, [`fresh`] gives its first configuration, and [`sense`], [`step`], [`answer`], [`delete`] and
 //! [`run`] change a configuration in place. A refused call gives the number of document 01's table and leaves the configuration

@@ -39,13 +39,13 @@ fn tell(case: u64, r: Reply) {
 fn raised() -> Config {
     let mut words = [0u32; 2432];
     words[0] = 1;
-    words[1] = 1;
-    words[2] = 3;
-    words[3] = 1200;
-    words[5] = 3;
-    words[6] = 3;
-    words[7] = 3;
-    words[8] = 1200;
+    words[state::ATOM_P] = 1;
+    words[state::ATOM_A] = 3;
+    words[state::ATOM_B] = 1200;
+    words[1] = 3;
+    words[state::ATOM_P + 1] = 3;
+    words[state::ATOM_A + 1] = 3;
+    words[state::ATOM_B + 1] = 1200;
     words[1280] = 2;
     words[1281] = 1;
     words[1282] = 1;

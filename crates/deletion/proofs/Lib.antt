@@ -4,3 +4,4 @@ pub mod Unlinked
 pub mod Kept
 pub mod Removed
 pub mod Sound
+pub mod Moves

@@ -11,6 +11,7 @@ ghost use Rattle.model.specs.Events.{gone-by, deletion};
 ghost use Rattle.model.specs.Deletion.{graph, links-in, remove};
 ghost use Rattle.state.specs.View.{atoms-of, plans-of, config-of, AtomsRise, PlansRise, SoundWords};
 ghost use Rattle.deletion.specs.Marks.{Marked, without-atom, without-plan, atom-gone, plan-goes, visited, unlinked-from, subgoals-of};
+ghost use Rattle.deletion.specs.Moves.{Moved, AtomsMoved};
 
 // The scalars afterwards, and how many instances went.
 pub struct Removal {
@@ -158,13 +159,67 @@ fn unlink(words: &mut [u32], scalars: Scalars, target: u32)
     state::put_plan_word(words, k, 5, 0);
 }
 
-// The atoms that are left, in their order; their number. The plans stand.
+// Some words, from `from` on, go down to `to`, one after the other.
+fn move_down(words: &mut [u32], from: usize, to: usize, n: usize)
+    requires { ⌜ (to ≤ from) × (from + n ≤ length (now words)) ⌝ }
+    ensures { λ _. ⌜ Moved (now (words .entry)) from to n (now (words .exit)) ⌝ }
+{
+    let gap = from - to;
+    let end = to + n;
+    let mut k = to;
+    while k < end {
+        words[k] = words[k + gap];
+        k += 1;
+    }
+}
+
+// A run of atoms goes down, column by column.
+fn move_atoms(words: &mut [u32], from: usize, to: usize, n: usize)
+    requires { ⌜ (length (now words) ≡ 2432) × (to ≤ from) × (from + n ≤ 256) ⌝ }
+    ensures { λ _. ⌜ AtomsMoved (now (words .entry)) from to n (now (words .exit)) ⌝ }
+{
+    move_down(words, from, to, n);
+    move_down(words, state::ATOM_P + from, state::ATOM_P + to, n);
+    move_down(words, state::ATOM_A + from, state::ATOM_A + to, n);
+    move_down(words, state::ATOM_B + from, state::ATOM_B + to, n);
+    move_down(words, state::ATOM_CYCLE + from, state::ATOM_CYCLE + to, n);
+}
+
+// Where a run of atoms that are left ends.
+fn run_end(left: &[bool], from: usize, n: usize) -> usize
+    requires { ⌜ (from ≤ n) × (n ≤ length (now left)) ⌝ }
+    ensures { λ r. ⌜ (from ≤ r) × (r ≤ n) × ((k : ℕ) → from ≤ k → k < r → getD (now (left .entry)) k false ≡ true) ⌝ }
+{
+    let mut k = from;
+    while k < n {
+        if !left[k] {
+            return k;
+        }
+        k += 1;
+    }
+    k
+}
+
+// The atoms that are left, in their order; their number. The plans stand. Runs are moved whole.
 fn keep_atoms(words: &mut [u32], atoms: u32, left: &[bool]) -> u32
     requires { ⌜ (length (now words) ≡ 2432) × (atoms ≤ 256) × (length (now left) ≡ 320) ⌝ }
     ensures kept { λ r. ⌜ (r ≤ atoms) × (atoms-of r (now (words .exit)) ≡ keep-by (now (left .entry)) (atoms-of atoms (now (words .entry)))) ⌝ }
     ensures plans { λ r. ⌜ ((m : ℕ) → plans-of m (now (words .exit)) ≡ plans-of m (now (words .entry))) ⌝ }
 {
-    table::keep(words, 5, atoms as usize, left) as u32
+    let n = atoms as usize;
+    let mut i = run_end(left, 0, n);
+    let mut j = i;
+    while i < n {
+        if !left[i] {
+            i += 1;
+            continue;
+        }
+        let end = run_end(left, i + 1, n);
+        move_atoms(words, i, j, end - i);
+        j += end - i;
+        i = end;
+    }
+    j as u32
 }
 
 // The plans that are left, in their order; their number. The atoms stand.
@@ -173,7 +228,12 @@ fn keep_plans(words: &mut [u32], plans: u32, left: &[bool]) -> u32
     ensures kept { λ r. ⌜ (r ≤ plans) × (plans-of r (now (words .exit)) ≡ keep-by (drop 256 (now (left .entry))) (plans-of plans (now (words .entry)))) ⌝ }
     ensures atoms { λ r. ⌜ ((n : ℕ) → n ≤ 256 → atoms-of n (now (words .exit)) ≡ atoms-of n (now (words .entry))) ⌝ }
 {
-    table::keep(&mut words[1280..], 18, plans as usize, &left[256..]) as u32
+    table::keep(
+        &mut words[state::PLANS_AT..],
+        18,
+        plans as usize,
+        &left[256..],
+    ) as u32
 }
 
 // "Deleting a target removes exactly the instances reached from it by zero or more links, and every link with an end among them."

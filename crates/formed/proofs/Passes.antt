@@ -14,7 +14,7 @@ use Rattle.lists.specs.Tables.{tabulate}
 use Rattle.lists.proofs.Lists.{clash}
 use Rattle.lists.proofs.Tests.{and2, every-all}
 use Rattle.lists.proofs.Tables.{get-in, tabulate-length, tabulate-at, tabulate-map}
-use Rattle.lists.proofs.Counted.{refuted, every-places, before, rises-places, rises-at}
+use Rattle.lists.proofs.Counted.{refuted, same-truth, every-places, before, rises-places, rises-at}
 use Rattle.formed.specs.Passes.{in-order}
 
 module _ {A : Type 0} (id : A → ℕ) (f : A → Bool) (g : ℕ → A) where
@@ -41,6 +41,27 @@ module _ {A : Type 0} (id : A → ℕ) (f : A → Bool) (g : ℕ → A) where
 
   pub in-order-fails : (n k : ℕ) → k < n → fits-at k ≡ false → in-order id f (tabulate n g) ≡ false
   in-order-fails n k h e = refuted (λ t. clash (in-order-at n k h t) e)
+
+  -- one element more, by its own test
+  in-order-more : (k : ℕ) → in-order id f (tabulate (k + 1) g) ≡ (in-order id f (tabulate k g) && fits-at k)
+  in-order-more k = same-truth
+      (λ e. and2 (in-order-holds k (λ i p. in-order-at (k + 1) i (omega arith) e)) (in-order-at (k + 1) k (omega arith) e))
+      (λ e. let a = and-eq-true-iff _ _ .0 e in in-order-holds (k + 1) (below-more (λ (i : ℕ). fits-at i ≡ true) k (λ i p. in-order-at k i p (a .0)) (a .1)))
+
+  -- whether the first k are in order, and `last` is the id before element k
+  pub record Tested (n k last : ℕ) (b : Bool) : Type 0 where
+    pub within : k ≤ n
+    pub last-is : last ≡ before (λ (i : ℕ). id (g i)) k
+    pub is : b ≡ in-order id f (tabulate k g)
+
+  pub tested-none : (n : ℕ) → Tested n 0 0 true
+  tested-none n = record { within = omega arith; last-is = refl; is = sym (in-order-holds 0 (λ k h. absurd (omega arith))) }
+
+  pub tested-more : (n k last : ℕ) (b : Bool) → Tested n k last b → k < n → Tested n (k + 1) (id (g k)) (b && (ltb last (id (g k)) && f (g k)))
+  tested-more n k last b w h = record { within = omega arith; last-is = rw add-one; is = rw (w .is, w .last-is) (sym (in-order-more k)) }
+
+  pub tested-all : (n k last : ℕ) (b : Bool) → Tested n k last b → n ≤ k → b ≡ in-order id f (tabulate n g)
+  tested-all n k last b w h = let a = w .within in let e : k ≡ n = omega arith in w .is ∙ ap (λ (m : ℕ). in-order id f (tabulate m g)) e
 
   -- the first k have passed, and `last` is the id before element k
   pub record Passed (n k last : ℕ) : Type 0 where

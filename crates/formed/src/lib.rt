@@ -1,4 +1,5 @@
 // Well-formedness of a configuration with its program: one pass over the atoms, one over the plans.
+use formed_plans::Near;
 use model::Atom;
 use state::Config;
 use state::Scalars;
@@ -30,19 +31,16 @@ fn atoms_formed(words: &[u32], atoms: u32, next: u32) -> bool
     ensures { λ r. ⌜ r ≡ in-order atom-id (atom-fits next) (atoms-of atoms (now (words .entry))) ⌝ }
 {
     let n = atoms as usize;
+    let mut fits = true;
     let mut before: u32 = 0;
     let mut k: usize = 0;
     while k < n {
         let x = state::atom_at(words, k);
-        let id = x.id;
-        let fits = (before < id) & atom_fits(x, next);
-        if !fits {
-            return false;
-        }
-        before = id;
+        fits = fits & ((before < x.id) & atom_fits(x, next));
+        before = x.id;
         k += 1;
     }
-    true
+    fits
 }
 
 // The plans' ids rise from 1 on, and each plan fits.
@@ -51,11 +49,32 @@ fn plans_formed(program: &[u32], words: &[u32], scalars: Scalars) -> bool
     ensures { λ r. ⌜ r ≡ in-order plan-id (plan-fits (rows-of (now (program .entry))) (config-of (now (words .entry)) scalars)) (plans-of (scalars .plans) (now (words .entry))) ⌝ }
 {
     let n = scalars.plans as usize;
+    if n == 0 {
+        return true;
+    }
+    let atoms = scalars.atoms;
+    let first_set = state::plan_set(words, 0);
+    let first_rule = state::plan_rule(words, 0);
+    let mut at = formed_plans::clauses_of(program, first_set, first_rule);
+    let mut near = Near {
+        place: 0,
+        first: 0,
+        second: 0,
+        third: 0,
+        fourth: 0,
+        subgoal: 0,
+    };
     let mut before: u32 = 0;
     let mut k: usize = 0;
     while k < n {
+        let set = state::plan_set(words, k);
+        let rule = state::plan_rule(words, k);
+        if (at.set != set) | (at.rule != rule) {
+            at = formed_plans::clauses_of(program, set, rule);
+        }
+        near = formed_plans::near_of(words, atoms, k, near);
         let id = state::plan_id(words, k);
-        let fits = (before < id) & formed_plans::plan_fits(program, words, scalars, k);
+        let fits = (before < id) & formed_plans::plan_fits(program, words, scalars, k, at, near);
         if !fits {
             return false;
         }
@@ -72,15 +91,17 @@ fn subgoals_differ(words: &[u32], atoms: u32, plans: u32) -> bool
 {
     let n = plans as usize;
     let mut marks = [false; 256];
+    let mut guess: usize = 0;
     let mut k: usize = 0;
     while k < n {
         let subgoal = state::plan_subgoal(words, k);
         if subgoal != 0 {
-            let i = state::find_atom(words, atoms, subgoal);
+            let i = state::find_near(words, atoms, subgoal, guess);
             if marks[i] {
                 return false;
             }
             marks[i] = true;
+            guess = i;
         }
         k += 1;
     }

@@ -18,13 +18,12 @@ pub node-tests : (c : Config) (q : Plan) →
 unfolding node-formed
 node-tests c q = simp (and-assoc, and-true)
 
-pub plan-tests : (program : List Row) (c : Config) (q : Plan) → length (q .values) ≡ 8 → {object left values valued flags first : Bool} →
+pub plan-tests : (program : List Row) (c : Config) (q : Plan) → length (q .values) ≡ 8 → {object left values flags first : Bool} →
     object ≡ is-object program (q .set) (q .rule) →
     left ≡ leb (q .left) (length (body program (q .set) (q .rule))) →
-    values ≡ every (λ v. leb v no-value) (q .values) →
-    valued ≡ every (row-has-values (q .values)) (body program (q .set) (q .rule)) →
+    values ≡ (every (λ v. leb v no-value) (q .values) && every (row-has-values (q .values)) (body program (q .set) (q .rule))) →
     flags ≡ leb (q .flags) 65535 →
     first ≡ subgoal-first program c q →
-    object && (left && ((values && valued) && (flags && first))) ≡ plan-formed program c q
+    object && (left && (values && (flags && first))) ≡ plan-formed program c q
 unfolding plan-formed
-plan-tests program c q h o l v w f s = rw (o, l, v, w, f, s, eq-eqb (length (q .values)) 8 h) (simp (and-assoc, and-true))
+plan-tests program c q h o l v f s = rw (o, l, v, f, s, eq-eqb (length (q .values)) 8 h) (simp (and-assoc, and-true))

@@ -1,19 +1,21 @@
--- The words of a plan: its four justifications against the list that they hold.
+-- The words of a plan: its four justifications against the list that they hold; ids of atoms.
 use mathlib.Core.Path.{_≡_, refl, sym, ap, _∙_}
 use mathlib.Core.Bool.{Bool, true, false, _&&_, and-true, and-false}
 use mathlib.Core.List.{List, [], _∷_}
-use Prim.Native.Nat.{ℕ, zero, suc, _-_, _≤_, _<_}
+use mathlib.Core.Logic.{⊎-elim, _≢_}
+use Prim.Native.Nat.{ℕ, zero, suc, _+_, _≤_, _<_}
 use native.Mathlib.Omega.{arith}
 use lib.Dec.{leb, ltb}
 use lib.ListN.{length, getD, length-map}
 use borrow.Author.Tests.{ne-eqb, le-leb, lt-ltb, le-ltb}
-use Rattle.lists.specs.Lists.{is-empty, every, rises}
+use Rattle.lists.specs.Lists.{is-empty, every, rises, member}
 use Rattle.lists.specs.Tables.{trim-cons, trimmed}
-use Rattle.lists.proofs.Tables.{tabulate-get, tabulate-length}
+use Rattle.lists.proofs.Lists.{map-in, out-member}
+use Rattle.lists.proofs.Tables.{tabulate-get, tabulate-length, tabulate-at, in-get, pairs-get, equal-or-not}
 use Rattle.lists.proofs.Counted.{trimmed-few}
 use Rattle.model.specs.declared.Atom.{Atom}
 use Rattle.state.specs.View.{atom-at, atoms-of, atom-ids-of}
-use Rattle.formed_plans.specs.Plans.{may-follow, justified}
+use Rattle.formed_plans.specs.Plans.{AtomsStand, may-follow, justified}
 
 middle-swap : (a b c d : Bool) → (a && b) && (c && d) ≡ (a && c) && (b && d)
 middle-swap true true c d = refl
@@ -81,3 +83,19 @@ module _ (alive : ℕ → Bool) where
 -- as many ids as atoms
 pub atom-ids-long : (words : List ℕ) (n : ℕ) → length (atom-ids-of n words) ≡ n
 atom-ids-long words n = length-map (atoms-of n words) (λ (x : Atom). x .id) ∙ tabulate-length n (atom-at words)
+
+-- an id above that of the last atom is no atom's
+pub past-absent : (words : List ℕ) (n k id : ℕ) → AtomsStand words n → k + 1 ≡ n → atom-at words k .id < id → member id (atom-ids-of n words) ≡ false
+past-absent words n k id w e h = out-member id (atom-ids-of n words) (λ i.
+    let x = map-in (λ (x : Atom). x .id) (atoms-of n words) i in
+    let p = in-get (atom-at words 0) (x .1) in
+    let long : length (atoms-of n words) ≡ n = tabulate-length n (atom-at words) in
+    let l : p .0 < n = omega (arith, p .1) in
+    let y : id ≡ atom-at words (p .0) .id = x .2 ∙ ap (λ (x : Atom). x .id) (sym (p .2) ∙ tabulate-at n (atom-at words) (p .0) (atom-at words 0) l) in
+    ⊎-elim
+    (λ (q : p .0 ≡ k). let z = ap (λ (m : ℕ). atom-at words m .id) q in omega arith)
+    (λ (q : p .0 ≢ k).
+    let z = pairs-get (λ (x y : Atom). x .id < y .id) (atoms-of n words) (atom-at words 0) (p .0) k (w .rise) (omega arith) (omega arith) in
+    let u = rw (tabulate-at n (atom-at words) (p .0) (atom-at words 0) l, tabulate-at n (atom-at words) k (atom-at words 0) (omega arith)) at z in
+    omega arith)
+    (equal-or-not (p .0) k))

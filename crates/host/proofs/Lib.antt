@@ -1,2 +1,4 @@
 pub mod Settled
 pub mod Loads
+pub mod Checked
+pub mod Started

@@ -1,5 +1,5 @@
 -- What stands in the lent slices after a call, accepted or refused.
-use mathlib.Core.Path.{_≡_, refl, sym, ap, _∙_}
+use mathlib.Core.Path.{_≡_, refl, sym, ap, _∙_, subst}
 use mathlib.Core.Bool.{Bool, true, false, _&&_, and-false, and-eq-true-iff}
 use mathlib.Core.Logic.{_≢_, ⊎-elim}
 use mathlib.Core.List.{List, [], _∷_}
@@ -22,9 +22,9 @@ use Rattle.in_place.specs.declared.RunChange.{RunChange}
 use Rattle.in_place.specs.Changes.{run-left-by}
 use Rattle.state.specs.declared.Scalars.{Scalars}
 use Rattle.state.specs.View.{config-of}
-use Rattle.in_place.specs.Given.{given-rows, admitted}
+use Rattle.in_place.specs.Given.{given-rows, admitted, Admitted}
 use Rattle.host.specs.Layout.{scalars-of, scalar-words, sized, padded, report-of, run-report}
-use Rattle.host.specs.Calls.{no-config, held, seen, settled, answer-seen, reply-seen, outcome-seen, run-seen}
+use Rattle.host.specs.Calls.{no-config, held, Trusted, seen, settled, answer-seen, reply-seen, outcome-seen, run-seen}
 
 module _ (n : ℕ) (before after : List ℕ) where
   pub settled-not : n ≢ 0 → before ≡ settled n before after
@@ -94,23 +94,28 @@ module _ (words scalars report words′ scalars′ report′ : List ℕ) (left :
   sizes : (length words ≡ 2432) × (length scalars ≡ 6) × (length report ≡ 8)
   sizes = long words scalars report z
 
-  accepted-held : number ≡ 0 → held words′ scalars′ report′ ≡ config-of words′ left
-  accepted-held e =
-      let a = s ∙ settled-yes number scalars (scalar-words left) e in
-      let b = r ∙ settled-yes number report told e in
-      held-as words′ scalars′ report′ (sized-by words′ scalars′ report′ (l ∙ sizes .0) (ap length a) (ap length b ∙ m))
-      ∙ ap (λ (x : List ℕ). config-of words′ (scalars-of x)) a
+  sized-after : sized words′ scalars′ report′ ≡ true
+  sized-after = ⊎-elim
+      (λ e. sized-by words′ scalars′ report′ (l ∙ sizes .0)
+      (ap length (s ∙ settled-yes number scalars (scalar-words left) e)) (ap length (r ∙ settled-yes number report told e) ∙ m))
+      (λ e. sized-by words′ scalars′ report′ (l ∙ sizes .0)
+      (ap length (s ∙ settled-no number scalars (scalar-words left) e) ∙ sizes .1) (ap length (r ∙ settled-no number report told e) ∙ sizes .2))
+      (equal-or-not number 0)
 
-  refused-held : number ≢ 0 → held words′ scalars′ report′ ≡ config-of words′ left
-  refused-held e =
-      let a = s ∙ settled-no number scalars (scalar-words left) e in
-      let b = r ∙ settled-no number report told e in
-      held-as words′ scalars′ report′ (sized-by words′ scalars′ report′ (l ∙ sizes .0) (ap length a ∙ sizes .1) (ap length b ∙ sizes .2))
-      ∙ ap (λ (x : List ℕ). config-of words′ (scalars-of x)) a
-      ∙ ap (config-of words′) (sym (g e))
+  scalars-after : scalars-of scalars′ ≡ left
+  scalars-after = ⊎-elim
+      (λ e. ap scalars-of (s ∙ settled-yes number scalars (scalar-words left) e))
+      (λ e. ap scalars-of (s ∙ settled-no number scalars (scalar-words left) e) ∙ sym (g e))
+      (equal-or-not number 0)
 
   pub seen-after : (result : ℕ) → result ≡ number → seen result words′ scalars′ report′ ≡ record { number = number; config = config-of words′ left; report = settled number report told }
-  seen-after result e = let h = ⊎-elim accepted-held refused-held (equal-or-not number 0) in λ i. record { number = e i; config = h i; report = r i }
+  seen-after result e =
+      let h = held-as words′ scalars′ report′ sized-after ∙ ap (config-of words′) scalars-after in
+      λ i. record { number = e i; config = h i; report = r i }
+
+  -- what is left may be handed in again
+  pub trusted-after : (program : List ℕ) → Admitted program words′ left → Trusted program words′ scalars′ report′
+  trusted-after program a = record { lengths = sized-after; well = subst (Admitted program words′) (sym scalars-after) a }
 
   -- a refused call leaves every lent word
   pub all-kept : (result : ℕ) → result ≡ number → result ≢ 0 → (words′ ≡ words) × (scalars′ ≡ scalars) × (report′ ≡ report)
@@ -153,6 +158,14 @@ module _ (words scalars report words′ scalars′ report′ : List ℕ) (left :
         all-kept words scalars report words′ scalars′ report′ left number (report-of made gone did) z l m s r w g result e,
       )
 
+  pub trusted-call-after : (program : List ℕ) → Admitted program words′ left → (result : ℕ) → result ≡ number → (k : Call) →
+      record { number = number; did = did; config = config-of words′ left; made = made; gone = gone } ≡ reply k (config-of words (scalars-of scalars)) →
+      (seen result words′ scalars′ report′ ≡ reply-seen k words scalars report)
+      × ((result ≢ 0 → (words′ ≡ words) × (scalars′ ≡ scalars) × (report′ ≡ report)) × Trusted program words′ scalars′ report′)
+  trusted-call-after program a result e k f =
+      let h = call-after result e k f in
+      (h .0, (h .1, trusted-after words scalars report words′ scalars′ report′ left number (report-of made gone did) z l (padded-length 8 _) s r w g program a))
+
 -- a run's
 module _ (words scalars report words′ scalars′ report′ : List ℕ) (c : RunChange)
     (z : sized words scalars report ≡ true) (l : length words′ ≡ length words)
@@ -166,3 +179,12 @@ module _ (words scalars report words′ scalars′ report′ : List ℕ) (c : Ru
             (f ∙ ap (λ (x : Config). run rows x limit) (sym (held-as words scalars report z))),
         all-kept words scalars report words′ scalars′ report′ (c .scalars) (c .number) _ z l m s r w g result e,
       )
+
+  pub trusted-run-after : (program : List ℕ) → Admitted program words′ (c .scalars) → (result : ℕ) → result ≡ c .number → (rows : List Row) (limit : ℕ) →
+      run-left-by words′ c ≡ run rows (config-of words (scalars-of scalars)) limit →
+      (seen result words′ scalars′ report′ ≡ run-seen rows limit words scalars report)
+      × ((result ≢ 0 → (words′ ≡ words) × (scalars′ ≡ scalars) × (report′ ≡ report)) × Trusted program words′ scalars′ report′)
+  trusted-run-after program a result e rows limit f =
+      let h = run-call-after result e rows limit f in
+      let m : length (run-report (c .made) (c .gone) (c .steps) (stop-of (c .stop))) ≡ 8 = padded-length 8 _ in
+      (h .0, (h .1, trusted-after words scalars report words′ scalars′ report′ (c .scalars) (c .number) _ z l m s r w g program a))

@@ -1,5 +1,6 @@
 -- What a host sees of a call: the number that it gives, the configuration in the lent words, the report.
-use mathlib.Core.Bool.{Bool, _&&_}
+use mathlib.Core.Path.{_≡_}
+use mathlib.Core.Bool.{Bool, true, _&&_}
 use mathlib.Core.List.{List, [], _∷_}
 use Prim.Native.Nat.{ℕ, _+_, _*_}
 use lib.Dec.{eqb}
@@ -7,6 +8,7 @@ use lib.ListN.{length}
 use Rattle.lists.specs.Lists.{if_then_else_}
 use Rattle.model.specs.declared.Row.{Row}
 use Rattle.model.specs.Configuration.{Config}
+use Rattle.model.specs.WellFormed.{given-well}
 use Rattle.model.specs.Load.{load}
 use Rattle.model.specs.Log.{Answer}
 use Rattle.model.specs.Run.{RunOutcome, run-refused, ran, run}
@@ -15,6 +17,7 @@ use Rattle.program.specs.Loading as Loading
 use Rattle.program.specs.Loading.{loading}
 use Rattle.loading.specs.Starting.{started-from}
 use Rattle.state.specs.View.{config-of}
+use Rattle.in_place.specs.Given.{given-rows, Admitted}
 use Rattle.host.specs.Layout.{scalars-of, sized, padded, report-of, run-report}
 
 -- slices of other lengths are no configuration: one that no program has stands for them, so that every call says 1
@@ -23,6 +26,16 @@ no-config = record { phase = 0; cycle = 65536; next = 1; waiting = 0; atoms = []
 
 unfoldable pub held : List ℕ → List ℕ → List ℕ → Config
 held words scalars report = if sized words scalars report then config-of words (scalars-of scalars) else no-config
+
+-- 0 for the lengths of a configuration and a well-formed pair, else 1
+unfoldable pub checked : List ℕ → List ℕ → List ℕ → ℕ
+checked program words scalars =
+    if (eqb (length words) 2432 && eqb (length scalars) 6) && given-well (given-rows program) (config-of words (scalars-of scalars)) then 0 else 1
+
+-- what a load or an accepted call leaves in the lent slices
+pub record Trusted (program words scalars report : List ℕ) : Type 0 where
+  pub lengths : sized words scalars report ≡ true
+  pub well : Admitted program words (scalars-of scalars)
 
 pub record Seen : Type 0 where
   pub number : ℕ

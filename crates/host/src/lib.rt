@@ -1,9 +1,11 @@
 // The calls for hosts in other languages: the program, the words and the scalars of a configuration and a report are lent as slices, and
 // the work is done on them in place. A call gives the refusal's number or 0, and then the report tells the rest. A refused call leaves
 // every lent word as it was; slices of other lengths than these are no configuration, refusal 1:
-//   words 2,432: 256 atoms of 5 (id p a b cycle), then 64 plans of 18 (id set rule left flags subgoal, four justifications, eight values)
+//   words 2,432: 256 atoms by columns (ids, p, a, b, cycles), then 64 plans of 18 (id set rule left flags subgoal, four justifications, eight values)
 //   scalars 6: phase, cycle, next id, waiting, atoms, plans
 //   report 8
+// The calls named trusted test neither lengths nor words: for languages whose types guarantee that nothing is handed in but what a load or
+// a call left, or what jq_check found well formed. The tested ones are the default.
 use in_place::Change;
 use running::Stop;
 use state::Config;
@@ -13,14 +15,15 @@ use stepping::How;
 use stepping::Made;
 ghost use mathlib.Core.Path.{_≡_};
 ghost use mathlib.Core.Logic.{_≢_};
-ghost use lib.ListN.{length};
+ghost use Prim.Native.Nat.{_*_};
+ghost use lib.ListN.{length, take, getD};
 ghost use Rattle.model.specs.Claims.{to-sense, to-step, to-answer, to-delete};
 ghost use Rattle.model.specs.Log.{fired, executed, called};
 ghost use Rattle.stepping.specs.Steps.{made-of, how-of, did-of};
 ghost use Rattle.running.specs.Running.{stop-of};
 ghost use Rattle.in_place.specs.Given.{given-rows, readings-of};
 ghost use Rattle.host.specs.Layout.{scalars-of, scalar-words, sized, report-of, run-report};
-ghost use Rattle.host.specs.Calls.{settled, seen, reply-seen, run-seen, load-seen};
+ghost use Rattle.host.specs.Calls.{settled, seen, reply-seen, run-seen, load-seen, checked, Trusted};
 
 // The lengths of what is lent.
 fn is_sized<'a>(words: &'a [u32], scalars: &'a [u32], report: &'a [u32]) -> bool
@@ -252,6 +255,128 @@ pub extern "C" fn jq_run(
     )
 }
 
+// Whether the words and the scalars are a configuration of the program, so that the trusted calls may take them: 0, else 1.
+#[no_mangle]
+pub extern "C" fn jq_check(program: &[u32], words: &[u32], scalars: &[u32]) -> u32
+    ensures { λ r. ⌜ r ≡ checked (now (program .entry)) (now (words .entry)) (now (scalars .entry)) ⌝ }
+{
+    if words.len() != 2432 {
+        return 1;
+    }
+    if scalars.len() != 6 {
+        return 1;
+    }
+    if !in_place::admits(program, words, scalars_of(scalars)) {
+        return 1;
+    }
+    0
+}
+
+// jq_delete for what is well formed; nothing is tested again.
+#[no_mangle]
+pub extern "C" fn jq_trusted_delete(
+    program: &[u32],
+    words: &mut [u32],
+    scalars: &mut [u32],
+    id: u32,
+    report: &mut [u32],
+) -> u32
+    requires { ⌜ Trusted (now program) (now words) (now scalars) (now report) ⌝ }
+    ensures { λ r. ⌜ seen r (now (words .exit)) (now (scalars .exit)) (now (report .exit)) ≡ reply-seen (to-delete (given-rows (now (program .entry))) id) (now (words .entry)) (now (scalars .entry)) (now (report .entry)) ⌝ }
+    ensures untouched { λ r. ⌜ (r ≢ 0 → (now (words .exit) ≡ now (words .entry)) × (now (scalars .exit) ≡ now (scalars .entry)) × (now (report .exit) ≡ now (report .entry))) ⌝ }
+    ensures stays { λ _. ⌜ Trusted (now (program .entry)) (now (words .exit)) (now (scalars .exit)) (now (report .exit)) ⌝ }
+{
+    let c = in_place::delete_admitted(program, words, scalars_of(scalars), id);
+    settle_change(scalars, report, c)
+}
+
+// jq_answer for what is well formed; nothing is tested again.
+#[no_mangle]
+pub extern "C" fn jq_trusted_answer(
+    program: &[u32],
+    words: &mut [u32],
+    scalars: &mut [u32],
+    n: u32,
+    report: &mut [u32],
+) -> u32
+    requires { ⌜ Trusted (now program) (now words) (now scalars) (now report) ⌝ }
+    ensures { λ r. ⌜ seen r (now (words .exit)) (now (scalars .exit)) (now (report .exit)) ≡ reply-seen (to-answer (given-rows (now (program .entry))) n) (now (words .entry)) (now (scalars .entry)) (now (report .entry)) ⌝ }
+    ensures untouched { λ r. ⌜ (r ≢ 0 → (now (words .exit) ≡ now (words .entry)) × (now (scalars .exit) ≡ now (scalars .entry)) × (now (report .exit) ≡ now (report .entry))) ⌝ }
+    ensures stays { λ _. ⌜ Trusted (now (program .entry)) (now (words .exit)) (now (scalars .exit)) (now (report .exit)) ⌝ }
+{
+    let c = in_place::answer_admitted(program, words, scalars_of(scalars), n);
+    settle_change(scalars, report, c)
+}
+
+// jq_sense for what is well formed; nothing is tested again.
+#[no_mangle]
+pub extern "C" fn jq_trusted_sense(
+    program: &[u32],
+    words: &mut [u32],
+    scalars: &mut [u32],
+    rows: &[u32],
+    report: &mut [u32],
+) -> u32
+    requires { ⌜ Trusted (now program) (now words) (now scalars) (now report) ⌝ }
+    ensures { λ r. ⌜ seen r (now (words .exit)) (now (scalars .exit)) (now (report .exit)) ≡ reply-seen (to-sense (given-rows (now (program .entry))) (readings-of (now (rows .entry)))) (now (words .entry)) (now (scalars .entry)) (now (report .entry)) ⌝ }
+    ensures untouched { λ r. ⌜ (r ≢ 0 → (now (words .exit) ≡ now (words .entry)) × (now (scalars .exit) ≡ now (scalars .entry)) × (now (report .exit) ≡ now (report .entry))) ⌝ }
+    ensures stays { λ _. ⌜ Trusted (now (program .entry)) (now (words .exit)) (now (scalars .exit)) (now (report .exit)) ⌝ }
+{
+    let c = in_place::sense_admitted(program, words, scalars_of(scalars), rows);
+    settle_change(scalars, report, c)
+}
+
+// jq_step for what is well formed; nothing is tested again.
+#[no_mangle]
+pub extern "C" fn jq_trusted_step(
+    program: &[u32],
+    words: &mut [u32],
+    scalars: &mut [u32],
+    report: &mut [u32],
+) -> u32
+    requires { ⌜ Trusted (now program) (now words) (now scalars) (now report) ⌝ }
+    ensures { λ r. ⌜ seen r (now (words .exit)) (now (scalars .exit)) (now (report .exit)) ≡ reply-seen (to-step (given-rows (now (program .entry)))) (now (words .entry)) (now (scalars .entry)) (now (report .entry)) ⌝ }
+    ensures untouched { λ r. ⌜ (r ≢ 0 → (now (words .exit) ≡ now (words .entry)) × (now (scalars .exit) ≡ now (scalars .entry)) × (now (report .exit) ≡ now (report .entry))) ⌝ }
+    ensures stays { λ _. ⌜ Trusted (now (program .entry)) (now (words .exit)) (now (scalars .exit)) (now (report .exit)) ⌝ }
+{
+    let r = in_place::step_admitted(program, words, scalars_of(scalars));
+    let left = r.scalars;
+    let did = r.did;
+    settle(
+        scalars,
+        report,
+        left,
+        r.number,
+        step_report(r.made, r.gone, did),
+    )
+}
+
+// jq_run for what is well formed; nothing is tested again.
+#[no_mangle]
+pub extern "C" fn jq_trusted_run(
+    program: &[u32],
+    words: &mut [u32],
+    scalars: &mut [u32],
+    limit: u32,
+    report: &mut [u32],
+) -> u32
+    requires { ⌜ Trusted (now program) (now words) (now scalars) (now report) ⌝ }
+    ensures { λ r. ⌜ seen r (now (words .exit)) (now (scalars .exit)) (now (report .exit)) ≡ run-seen (given-rows (now (program .entry))) limit (now (words .entry)) (now (scalars .entry)) (now (report .entry)) ⌝ }
+    ensures untouched { λ r. ⌜ (r ≢ 0 → (now (words .exit) ≡ now (words .entry)) × (now (scalars .exit) ≡ now (scalars .entry)) × (now (report .exit) ≡ now (report .entry))) ⌝ }
+    ensures stays { λ _. ⌜ Trusted (now (program .entry)) (now (words .exit)) (now (scalars .exit)) (now (report .exit)) ⌝ }
+{
+    let r = in_place::run_admitted(program, words, scalars_of(scalars), limit);
+    let left = r.scalars;
+    let stop = r.stop;
+    settle(
+        scalars,
+        report,
+        left,
+        r.number,
+        run_report(r.made, r.gone, r.steps, stop),
+    )
+}
+
 // The rows and the words of a load into what is lent.
 fn lay<'a>(program: &'a mut [u32], words: &'a mut [u32], rows: [u32; 4096], laid: [u32; 2432])
     requires { ⌜ (length (now program) ≡ 4096) × (length (now words) ≡ 2432) ⌝ }
@@ -273,6 +398,7 @@ pub extern "C" fn jq_load(
 ) -> u64
     ensures { λ r. ⌜ record { seen-of = seen r (now (words .exit)) (now (scalars .exit)) (now (report .exit)); program = now (program .exit) } ≡ load-seen (now (text .entry)) (now (program .entry)) (now (words .entry)) (now (scalars .entry)) (now (report .entry)) ⌝ }
     ensures untouched { λ r. ⌜ (r ≢ 0 → (now (program .exit) ≡ now (program .entry)) × (now (words .exit) ≡ now (words .entry)) × (now (scalars .exit) ≡ now (scalars .entry)) × (now (report .exit) ≡ now (report .entry))) ⌝ }
+    ensures formed { λ r. ⌜ (r ≡ 0 → Trusted (take (getD (now (report .exit)) 0 0 * 8) (now (program .exit))) (now (words .exit)) (now (scalars .exit)) (now (report .exit))) ⌝ }
 {
     if program.len() != 4096 {
         return 1;

@@ -6,3 +6,4 @@ pub mod Limits
 pub mod Waiting
 pub mod Stepped
 pub mod Ran
+pub mod Stays

@@ -52,7 +52,7 @@ module _ (program : List ℕ) (c : Configuration.Config) (o : Outcome) where
   is-admitted e = unless-false (not (given-well (given-rows program) c)) 1 o (ap not e)
 
 -- what is admitted is well formed
-pub record Admitted (program : List ℕ) (c : Configuration.Config) : Type 0 where
+pub record Formed (program : List ℕ) (c : Configuration.Config) : Type 0 where
   pub lawful-rows : Lawful (rows-of program)
   pub sound : Sound (graph c)
   pub shaped : Shaped (rows-of program) c
@@ -61,7 +61,7 @@ pub given-admitted : (program : List ℕ) (c : Configuration.Config) → admitte
 unfolding admitted
 given-admitted program c e = subst (λ (rows : List Row). given-well rows c ≡ true) (rows-admitted program c e) e
 
-pub admitted-well : (program : List ℕ) (c : Configuration.Config) → admitted program c ≡ true → Admitted program c
+pub admitted-well : (program : List ℕ) (c : Configuration.Config) → admitted program c ≡ true → Formed program c
 unfolding given-well
 admitted-well program c e =
     let b = and-eq-true-iff (well-formed (rows-of program)) (config-formed (rows-of program) c) .0 (given-admitted program c e) in

@@ -23,7 +23,7 @@ use Rattle.in_place.specs.Changes.{run-left-by, run-refusal}
 use Rattle.in_place.proofs.Outcomes.{rows-admitted}
 
 -- the test decides
-if-true : (b : Bool) (x y : RunOutcome) → b ≡ true → (if b then x else y) ≡ x
+pub if-true : (b : Bool) (x y : RunOutcome) → b ≡ true → (if b then x else y) ≡ x
 if-true b x y e = ap (λ (t : Bool). if t then x else y) e
 
 if-false : (b : Bool) (x y : RunOutcome) → b ≡ false → (if b then x else y) ≡ y

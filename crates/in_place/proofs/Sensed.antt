@@ -29,7 +29,7 @@ use Rattle.state.specs.View.{config-of}
 use Rattle.sensing.specs.Sensing.{Ready, reading-at, readings-from, Shows, SensesRows}
 use Rattle.in_place.specs.Given.{given-rows, admitted, no-reading, readings-of}
 use Rattle.demands.proofs.Outcomes.{unless-true, unless-false}
-use Rattle.in_place.proofs.Outcomes.{not-admitted, is-admitted, rows-admitted, Admitted, admitted-well, admitted-words}
+use Rattle.in_place.proofs.Outcomes.{not-admitted, is-admitted, rows-admitted, Formed, admitted-well, admitted-words}
 
 -- what is admitted is ready for work
 pub admitted-ready : (program words : List ℕ) (s : Scalars) → length words ≡ 2432 → admitted program (config-of words s) ≡ true → Ready words s
@@ -139,7 +139,7 @@ module _ (program : List ℕ) (c : Config) (rows : List ℕ) where
           unfolding SensesRows
           sense-rises number d gone z s = at (sense-rows (rows-of program) (readings-from rows 0 (length rows / 4)) (begin c)) (good-rows (rows-of program) c (g .lawful-rows) (readings-from rows 0 (length rows / 4)) h (begin c) (good-begin (rows-of program) c (g .shaped) w)) (s (begin c) refl)
             where
-              g : Admitted program c
+              g : Formed program c
               g = admitted-well program c a
 
               at : (o : Outcome) → After (Good (rows-of program) c) o → Shows o number d (0 + gone) → c .next ≤ d .next

@@ -14,7 +14,7 @@ ghost use Rattle.model.specs.Configuration.{atom-alive, plan-alive};
 ghost use Rattle.program.specs.Rows.{rows-of};
 ghost use Rattle.state.specs.View.{config-of, SoundWords};
 ghost use Rattle.sensing.specs.Sensing.{readings-from, Ready, SensesRows};
-ghost use Rattle.in_place.specs.Given.{given-rows, admitted, readings-of};
+ghost use Rattle.in_place.specs.Given.{given-rows, admitted, Admitted, readings-of};
 ghost use Rattle.in_place.specs.Changes.{left-by, refusal, step-left-by, step-refusal, run-left-by, run-refusal};
 
 // What a call leaves beside the words: the scalars, the refusal's number or 0, made and gone.
@@ -86,6 +86,16 @@ pub fn delete(program: &[u32], words: &mut [u32], scalars: Scalars, id: u32) -> 
     if !admits(program, words, scalars) {
         return refuse(scalars, 1);
     }
+    delete_admitted(program, words, scalars, id)
+}
+
+// The same for a pair that is well formed, as what a load or a call left is: so nothing is tested again.
+pub fn delete_admitted(program: &[u32], words: &mut [u32], scalars: Scalars, id: u32) -> Change
+    requires { ⌜ Admitted (now program) (now words) scalars ⌝ }
+    ensures { λ r. ⌜ left-by (now (words .exit)) r ≡ reply (to-delete (given-rows (now (program .entry))) id) (config-of (now (words .entry)) scalars) ⌝ }
+    ensures untouched { λ r. ⌜ (r .number ≢ 0 → (now (words .exit) ≡ now (words .entry)) × (r ≡ refusal scalars (r .number))) ⌝ }
+    ensures stays { λ r. ⌜ Admitted (now (program .entry)) (now (words .exit)) (r .scalars) ⌝ }
+{
     if scalars.waiting != 0 {
         return refuse(scalars, 6);
     }
@@ -111,6 +121,16 @@ pub fn answer(program: &[u32], words: &mut [u32], scalars: Scalars, n: u32) -> C
     if !admits(program, words, scalars) {
         return refuse(scalars, 1);
     }
+    answer_admitted(program, words, scalars, n)
+}
+
+// The same for a pair that is well formed, as what a load or a call left is: so nothing is tested again.
+pub fn answer_admitted(program: &[u32], words: &mut [u32], scalars: Scalars, n: u32) -> Change
+    requires { ⌜ Admitted (now program) (now words) scalars ⌝ }
+    ensures { λ r. ⌜ left-by (now (words .exit)) r ≡ reply (to-answer (given-rows (now (program .entry))) n) (config-of (now (words .entry)) scalars) ⌝ }
+    ensures untouched { λ r. ⌜ (r .number ≢ 0 → (now (words .exit) ≡ now (words .entry)) × (r ≡ refusal scalars (r .number))) ⌝ }
+    ensures stays { λ r. ⌜ Admitted (now (program .entry)) (now (words .exit)) (r .scalars) ⌝ }
+{
     let id = scalars.waiting;
     if id == 0 {
         return refuse(scalars, 6);
@@ -162,6 +182,16 @@ pub fn sense(program: &[u32], words: &mut [u32], scalars: Scalars, rows: &[u32])
     if !admits(program, words, scalars) {
         return refuse(scalars, 1);
     }
+    sense_admitted(program, words, scalars, rows)
+}
+
+// The same for a pair that is well formed, as what a load or a call left is: so nothing is tested again.
+pub fn sense_admitted(program: &[u32], words: &mut [u32], scalars: Scalars, rows: &[u32]) -> Change
+    requires { ⌜ Admitted (now program) (now words) scalars ⌝ }
+    ensures { λ r. ⌜ left-by (now (words .exit)) r ≡ reply (to-sense (given-rows (now (program .entry))) (readings-of (now (rows .entry)))) (config-of (now (words .entry)) scalars) ⌝ }
+    ensures untouched { λ r. ⌜ (r .number ≢ 0 → (now (words .exit) ≡ now (words .entry)) × (r ≡ refusal scalars (r .number))) ⌝ }
+    ensures stays { λ r. ⌜ Admitted (now (program .entry)) (now (words .exit)) (r .scalars) ⌝ }
+{
     if scalars.phase != 0 {
         return refuse(scalars, 6);
     }
@@ -212,6 +242,16 @@ pub fn step(program: &[u32], words: &mut [u32], scalars: Scalars) -> StepChange
     if !admits(program, words, scalars) {
         return refuse_step(scalars, 1);
     }
+    step_admitted(program, words, scalars)
+}
+
+// The same for a pair that is well formed, as what a load or a call left is: so nothing is tested again.
+pub fn step_admitted(program: &[u32], words: &mut [u32], scalars: Scalars) -> StepChange
+    requires { ⌜ Admitted (now program) (now words) scalars ⌝ }
+    ensures { λ r. ⌜ step-left-by (now (words .exit)) r ≡ reply (to-step (given-rows (now (program .entry)))) (config-of (now (words .entry)) scalars) ⌝ }
+    ensures untouched { λ r. ⌜ (r .number ≢ 0 → (now (words .exit) ≡ now (words .entry)) × (r ≡ step-refusal scalars (r .number))) ⌝ }
+    ensures stays { λ r. ⌜ Admitted (now (program .entry)) (now (words .exit)) (r .scalars) ⌝ }
+{
     if scalars.phase == 0 {
         return refuse_step(scalars, 6);
     }
@@ -256,6 +296,16 @@ pub fn run(program: &[u32], words: &mut [u32], scalars: Scalars, limit: u32) -> 
     if !admits(program, words, scalars) {
         return refuse_run(scalars, 1);
     }
+    run_admitted(program, words, scalars, limit)
+}
+
+// The same for a pair that is well formed, as what a load or a call left is: so nothing is tested again.
+pub fn run_admitted(program: &[u32], words: &mut [u32], scalars: Scalars, limit: u32) -> RunChange
+    requires { ⌜ Admitted (now program) (now words) scalars ⌝ }
+    ensures { λ r. ⌜ run-left-by (now (words .exit)) r ≡ run-of-steps (given-rows (now (program .entry))) (config-of (now (words .entry)) scalars) limit ⌝ }
+    ensures untouched { λ r. ⌜ (r .number ≢ 0 → (now (words .exit) ≡ now (words .entry)) × (r ≡ run-refusal scalars (r .number))) ⌝ }
+    ensures stays { λ r. ⌜ Admitted (now (program .entry)) (now (words .exit)) (r .scalars) ⌝ }
+{
     if scalars.phase == 0 {
         return refuse_run(scalars, 6);
     }

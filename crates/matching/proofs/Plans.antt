@@ -1,17 +1,19 @@
 -- The test for an equal plan: ids put into rising order, lists compared place by place, the values of a body's variables.
 use mathlib.Core.Path.{_≡_, refl, sym, ap, _∙_}
-use mathlib.Core.Bool.{Bool, true, false, _&&_, and-assoc}
-use mathlib.Core.Logic.{_≢_}
+use mathlib.Core.Bool.{Bool, true, false, _&&_, and-assoc, false≢true}
+use mathlib.Core.Logic.{_≢_, ⊎-elim}
 use mathlib.Core.List.{List, [], _∷_, _++_}
 use Prim.Native.Nat.{ℕ, zero, suc, _+_, _-_, _≤_, _<_}
 use native.Mathlib.Numerals.{add-one}
 use native.Mathlib.Omega.{arith}
-use lib.Dec.{eqb}
-use lib.ListN.{length, take, drop, getD, set, length-set, drop-of-length-le, take-append-drop}
+use lib.Dec.{eqb, ltb}
+use lib.ListN.{length, take, drop, getD, set, length-set, drop-of-length-le, take-append-drop, List·getD-eq-default}
 use lib.Seq.{take-take, take-set-lt, drop-set-lt, take-suc, getD-take, getD-set-other, length-take-le}
-use borrow.Author.Tests.{eq-eqb, ne-eqb, lt-ltb, le-ltb}
+use borrow.Author.Tests.{eq-eqb, ne-eqb, lt-ltb, le-ltb, ltb-true, ltb-false}
 use Rattle.lists.specs.Lists.{In, Pairs, first, insert, rising-set, same, some}
 use Rattle.lists.specs.Tables.{tabulate, trimmed}
+use Rattle.lists.proofs.Lists.{test}
+use Rattle.lists.proofs.Tests.{and2, same-equal}
 use Rattle.lists.proofs.Tables.{tabulate-length, tabulate-from}
 use Rattle.lists.proofs.Bind.{append-assoc}
 use Rattle.lists.proofs.Cuts.{drop-next}
@@ -19,12 +21,12 @@ use Rattle.lists.proofs.RisingSet.{rising-set-rises}
 use Rattle.lists.proofs.Search.{trimmed-front}
 use Rattle.model.specs.declared.Row.{Row}
 use Rattle.model.specs.Configuration.{Plan}
-use Rattle.model.specs.Matching.{body-value, body-values}
+use Rattle.model.specs.Matching.{Found, body-value, body-values, justifications-of, equal-plan}
 use Rattle.program.specs.Rows.{row-at}
 use Rattle.program.proofs.Words.{rows-next, rows-none}
 use Rattle.queries.proofs.Laws.{one-more}
 use Rattle.matching.specs.declared.Ids.{Ids}
-use Rattle.matching.specs.Rules.{rows-between, ids-of, Padded}
+use Rattle.matching.specs.Rules.{rows-between, ids-of, Padded, agrees-in}
 
 -- the least number goes first
 insert-least : (x : ℕ) (l : List ℕ) → Pairs (λ (x y : ℕ). x < y) (x ∷ l) → insert x l ≡ x ∷ l
@@ -224,3 +226,33 @@ module _ (f : Plan → Bool) (n : ℕ) (plan : ℕ → Plan) (k : ℕ) where
 -- ids that are not 0 are as a plan holds them
 pub ids-trimmed : (l : Ids) → Padded l → ((x : ℕ) → In x (ids-of l) → x ≢ 0) → trimmed (l .ids) ≡ ids-of l
 ids-trimmed l p f = trimmed-front (l .ids) (l .count) p f
+
+-- ids that are the same list stand in the same words
+module _ (l : Ids) (js : List ℕ) (long : length (l .ids) ≡ 4) (few : l .count ≤ 4) (p : Padded l) where
+  word-of : js ≡ ids-of l → (j : ℕ) → getD js j 0 ≡ getD (l .ids) j 0
+  word-of e j = ap (λ (m : List ℕ). getD m j 0) e ∙ ⊎-elim
+      (λ t. getD-take (l .count) (l .ids) j 0 (ltb-true j (l .count) t))
+      (λ t.
+      let h = ltb-false j (l .count) t in
+      let z : length (ids-of l) ≡ l .count = length-take-le (l .count) (l .ids) (omega arith) in
+      List·getD-eq-default (ids-of l) 0 {n = j} (omega arith) ∙ sym (p j h))
+      (test (ltb j (l .count)))
+
+  agrees-same : same js (ids-of l) ≡ true → agrees-in js (l .ids) ≡ true
+  agrees-same t =
+      let e = same-equal js (ids-of l) t in
+      let w : (j : ℕ) → eqb (getD js j 0) (getD (l .ids) j 0) ≡ true = λ j. eq-eqb (getD js j 0) (getD (l .ids) j 0) (word-of e j) in
+      and2 (and2 (w 0) (w 1)) (and2 (w 2) (w 3))
+
+  pub not-same : agrees-in js (l .ids) ≡ false → same js (ids-of l) ≡ false
+  not-same e = ⊎-elim (λ t. absurd (false≢true (sym e ∙ agrees-same t))) (λ t. t) (test (same js (ids-of l)))
+
+-- a plan with other justifications is not equal
+pub other-justified : (P : List Row) (s n : ℕ) (f : Found) (q : Plan) → same (q .justifications) (justifications-of f) ≡ false → equal-plan P s n f q ≡ false
+unfolding equal-plan
+other-justified P s n f q e = rw e (at (eqb (q .set) s) (eqb (q .rule) n))
+  where
+    at : (a b : Bool) → (a && (b && false)) ≡ false
+    at true true = refl
+    at true false = refl
+    at false b = refl

@@ -1,5 +1,6 @@
 -- Where a rule's rows stand, which of its matches count, and what the choice says in the model's terms.
 use mathlib.Core.Path.{_≡_}
+use mathlib.Core.Bool.{Bool, _&&_}
 use mathlib.Core.List.{List, [], _∷_}
 use Prim.Native.Nat.{ℕ, _-_, _/_, _≤_}
 use lib.Dec.{eqb}
@@ -51,6 +52,11 @@ ids-of l = take (l .count) (l .ids)
 
 abbrev pub Padded : Ids → Type 0
 Padded l = (k : ℕ) → l .count ≤ k → getD (l .ids) k 0 ≡ 0
+
+-- four words, with zeros behind the last id, are the same
+abbrev pub agrees-in : List ℕ → List ℕ → Bool
+agrees-in js ids =
+    (eqb (getD js 0 0) (getD ids 0 0) && eqb (getD js 1 0) (getD ids 1 0)) && (eqb (getD js 2 0) (getD ids 2 0) && eqb (getD js 3 0) (getD ids 3 0))
 
 -- the rule that fires and its match, if there is one
 abbrev pub choice-of : Choice → List Firing

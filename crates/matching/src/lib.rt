@@ -8,23 +8,23 @@ use state::Scalars;
 ghost use mathlib.Core.Path.{_≡_};
 ghost use mathlib.Core.Bool.{true, _&&_};
 ghost use mathlib.Core.Logic.{_⊎_, _≢_};
-ghost use Prim.Native.Nat.{_+_, _-_, _*_, _/_, _<_, _≤_};
+ghost use Prim.Native.Nat.{_+_, _-_, _/_, _<_, _≤_};
 ghost use lib.Dec.{eqb};
 ghost use lib.ListN.{length, take};
 ghost use Rattle.lists.specs.Lists.{Pairs, insert as inserted, rising-set as rising-set-of, same, bind};
 ghost use Rattle.model.specs.Matching.{nothing-found, body-value, body-values, justifications-of, equal-plan, counts as counts-of, firing};
 ghost use Rattle.program.specs.Rows.{row-at, rows-of};
-ghost use Rattle.program_laws.specs.Lawful.{NotLater, Lawful};
-ghost use Rattle.spans.specs.Spans.{Bound};
+ghost use Rattle.program_laws.specs.Lawful.{Lawful};
 ghost use Rattle.state.specs.View.{plan-at, config-of};
 ghost use Rattle.nogoods.specs.Nogoods.{no-set, size, nogood, Replaced};
 ghost use Rattle.queries.specs.View.{found-in, found-of, Limits, Sized, Kept};
 ghost use Rattle.queries.specs.Answers.{answers};
-ghost use Rattle.matching.specs.Rules.{rows-between, reasons-in, Located, counted, Searched, ids-of, Padded, choice-of, Chosen};
+ghost use Rattle.filters.specs.Filters.{Marked};
+ghost use Rattle.matching.specs.Rules.{rows-between, reasons-in, Located, counted, Searched, ids-of, Padded, agrees-in, choice-of, Chosen};
 ghost use Rattle.matching.specs.Sets.{OfBody, Barren, Remembered, LongSearched, RestSearched};
 
-// How many rows a rule's search may try before it goes the long way, which costs more for each row and forgets no failure.
-const FUEL: u32 = 500;
+// How many rows a rule's search may try before it goes the long way, which has tables to make first, and then leaves most rows early.
+const FUEL: u32 = 100;
 
 // A rule: its set and number, where its body begins, which is where its reasons and context end, where its body ends, and
 // whether it is an object rule.
@@ -197,6 +197,18 @@ fn equal_plan<'a>(
     same_values(program, words, k, rule.body, rule.end, values)
 }
 
+// The words of plan k's justifications are these, with zeros behind: as they are where the sets are the same.
+fn words_agree(words: &[u32], k: usize, ids: [u32; 4]) -> bool
+    requires { ⌜ (length (now words) ≡ 2432) × (k < 64) ⌝ }
+    ensures { λ b. ⌜ b ≡ agrees-in (plan-at (now (words .entry)) k .justifications) ids ⌝ }
+{
+    let first = state::plan_justification(words, k, 0) == ids[0];
+    let second = state::plan_justification(words, k, 1) == ids[1];
+    let third = state::plan_justification(words, k, 2) == ids[2];
+    let fourth = state::plan_justification(words, k, 3) == ids[3];
+    (first & second) & (third & fourth)
+}
+
 // "An object rule's match counts only if no live plan has the same .."
 fn counts<'a>(program: &'a [u32], words: &'a [u32], s: Scalars, rule: Rule, f: Bindings) -> bool
     requires { ⌜ Located (now program) rule × Limits (now words) s × (f .count ≤ 4) ⌝ }
@@ -207,9 +219,15 @@ fn counts<'a>(program: &'a [u32], words: &'a [u32], s: Scalars, rule: Rule, f: B
     }
     let matched = f.matched;
     let l = rising_set(matched, f.count);
+    let ids = l.ids;
     let n = s.plans as usize;
     let mut k: usize = 0;
     while k < n {
+        // most plans are raised from other atoms
+        if !words_agree(words, k, ids) {
+            k += 1;
+            continue;
+        }
         if equal_plan(program, words, rule, k, l, f) {
             return false;
         }
@@ -288,8 +306,9 @@ fn ask_later<'a>(
     count: usize,
     values: &mut [u32; 8],
     matched: &mut [u32; 4],
+    filter: &'a [u8],
 ) -> u32
-    requires { ⌜ Located (now program) rule × Limits (now words) s × (k < rule .body) × (count ≤ 4) × Sized (now values) (now matched) ⌝ }
+    requires { ⌜ Located (now program) rule × Limits (now words) s × (k < rule .body) × (count ≤ 4) × Sized (now values) (now matched) × Marked (now words) (s .atoms) (now filter) ⌝ }
     ensures sized { λ _. ⌜ Sized (now (values .exit)) (now (matched .exit)) ⌝ }
     ensures is { λ m. ⌜ (m ≢ no-set → Barren (now (program .entry)) (now (words .entry)) s rule k (found-in (now (values .entry)) (now (matched .entry)) count) m) ⌝ }
     ensures back { λ _. ⌜ now (values .exit) ≡ now (values .entry) ⌝ }
@@ -308,7 +327,7 @@ fn ask_later<'a>(
         }
         let r = program::row_at(program, body - j);
         if sets::is_settled(r, &before) {
-            if queries::next_answer(words, s, r, 0, before, count, values, matched) == 0 {
+            if filters::next_answer(words, s, r, 0, before, count, values, matched, filter) == 0 {
                 return sets::operands(r);
             }
             *values = before;
@@ -331,8 +350,9 @@ fn glance<'a>(
     matched: &mut [u32; 4],
     hints: &mut [u32],
     known: &'a [u32],
+    filter: &'a [u8],
 ) -> u32
-    requires { ⌜ Located (now program) rule × Limits (now words) s × (k < rule .body) × (count ≤ 4) × Sized (now values) (now matched) × Remembered (now program) (now words) s rule (now known) ⌝ }
+    requires { ⌜ Located (now program) rule × Limits (now words) s × (k < rule .body) × (count ≤ 4) × Sized (now values) (now matched) × Remembered (now program) (now words) s rule (now known) × Marked (now words) (s .atoms) (now filter) ⌝ }
     ensures sized { λ _. ⌜ Sized (now (values .exit)) (now (matched .exit)) ⌝ }
     ensures is { λ m. ⌜ (m ≢ no-set → Barren (now (program .entry)) (now (words .entry)) s rule k (found-in (now (values .entry)) (now (matched .entry)) count) m) ⌝ }
     ensures back { λ _. ⌜ now (values .exit) ≡ now (values .entry) ⌝ }
@@ -359,6 +379,7 @@ fn glance<'a>(
         count,
         values,
         matched,
+        filter,
     );
     hints::charge(hints, set != nogoods::NONE);
     set
@@ -385,8 +406,8 @@ fn learn(
 }
 
 // The first match that counts where a search is long, to its end: `NONE` and the ids that are matched then, or the set on which its failure
-// hangs, and all is as it was. `body` is what it hangs on whether a match counts; `known` are nogoods of the same rule. A row that changes
-// nothing of what a failure hangs on is left at once: its other answers would fail alike.
+// hangs, and all is as it was. `body` is what it hangs on whether a match counts; `known` are nogoods of the same rule, `filter` is that of the
+// atoms. A row that changes nothing of what a failure hangs on is left at once: its other answers would fail alike.
 pub fn search_long<'a>(
     program: &'a [u32],
     words: &'a [u32],
@@ -399,8 +420,9 @@ pub fn search_long<'a>(
     body: u32,
     hints: &mut [u32],
     known: &mut [u32],
+    filter: &'a [u8],
 ) -> u32
-    requires { ⌜ Located (now program) rule × Limits (now words) s × (count + reasons-in (now program) k (rule .body) ≤ 4) × Sized (now values) (now matched) × OfBody (now program) (rule .body) (rule .end) body × Remembered (now program) (now words) s rule (now known) ⌝ }
+    requires { ⌜ Located (now program) rule × Limits (now words) s × (count + reasons-in (now program) k (rule .body) ≤ 4) × Sized (now values) (now matched) × OfBody (now program) (rule .body) (rule .end) body × Remembered (now program) (now words) s rule (now known) × Marked (now words) (s .atoms) (now filter) ⌝ }
     ensures sized { λ _. ⌜ Sized (now (values .exit)) (now (matched .exit)) ⌝ }
     ensures is { λ m. ⌜ LongSearched (now (program .entry)) (now (words .entry)) s rule k (found-in (now (values .entry)) (now (matched .entry)) count) (now (values .exit)) (now (matched .exit)) m ⌝ }
     ensures back { λ m. ⌜ (m < no-set → now (values .exit) ≡ now (values .entry)) ⌝ }
@@ -435,6 +457,7 @@ pub fn search_long<'a>(
             matched,
             hints,
             known,
+            filter,
         );
         if set != nogoods::NONE {
             return set;
@@ -442,6 +465,10 @@ pub fn search_long<'a>(
     }
     let r = program::row_at(program, k);
     let mut blame = sets::operands(r);
+    if filters::is_barred(filter, r, &before) {
+        let ids = *matched;
+        return learn(known, hint, rest, blame, before, count, ids);
+    }
     // not asked yet
     let mut gives = nogoods::NONE;
     let mut c: usize = 0;
@@ -464,6 +491,7 @@ pub fn search_long<'a>(
             body,
             hints,
             known,
+            filter,
         );
         if nogoods::NONE <= m {
             return m;
@@ -499,12 +527,13 @@ fn search_rest<'a>(
     let body = sets::of_body(program, rule.body, rule.end);
     let mut hints = hints::of_rule(program, words, s, k, rule.body);
     let mut known: [u32; nogoods::SIZE] = [0; nogoods::SIZE];
+    let filter = filters::of_atoms(words, s.atoms);
     let r = program::row_at(program, k);
     let gives = sets::changed(r, &before);
     let n = queries::given_ids(r);
     let mut c = from;
     loop {
-        c = queries::next_answer(words, s, r, c, before, 0, values, matched);
+        c = filters::next_answer(words, s, r, c, before, 0, values, matched, &filter);
         if c == 0 {
             return 0;
         }
@@ -520,6 +549,7 @@ fn search_rest<'a>(
             body,
             &mut hints,
             &mut known,
+            &filter,
         );
         if nogoods::NONE <= m {
             return m;
@@ -565,32 +595,6 @@ fn search_on<'a>(
     search_on(program, words, s, rule, k + 1, 0, values, matched)
 }
 
-// Whether row k is one of this part.
-fn is_part(program: &[u32], k: usize, set: u32, rule: u32, part: u32) -> bool
-    requires { ⌜ k * 8 + 8 ≤ length (now program) ⌝ }
-    ensures { λ b. ⌜ b ≡ (eqb (row-at (now (program .entry)) k .set) set
-        && (eqb (row-at (now (program .entry)) k .rule) rule && eqb (row-at (now (program .entry)) k .part) part)) ⌝ }
-{
-    let r = program::row_at(program, k);
-    (r.set == set) & ((r.rule == rule) & (r.part == part))
-}
-
-// Where a part's rows end that begin at `from`.
-fn part_end(program: &[u32], from: usize, set: u32, rule: u32, part: u32) -> usize
-    requires { ⌜ Pairs NotLater (rows-of (now program)) × Bound (now program) set rule part from ⌝ }
-    ensures { λ r. ⌜ Bound (now (program .entry)) set rule (part + 1) r ⌝ }
-{
-    let n = program.len() / 8;
-    let mut k = from;
-    while k < n {
-        if !is_part(program, k, set, rule, part) {
-            return k;
-        }
-        k += 1;
-    }
-    k
-}
-
 // Nothing is found yet.
 fn nothing() -> Bindings
     ensures { λ f. ⌜ (found-of f ≡ nothing-found) × (f .count ≡ 0) ⌝ }
@@ -631,9 +635,9 @@ pub fn choose<'a>(program: &'a [u32], words: &'a [u32], s: Scalars, set: u32) ->
         if r.set != set {
             break 'rules;
         }
-        let context = part_end(program, start, set, number, 1);
-        let body = part_end(program, context, set, number, 2);
-        let end = part_end(program, body, set, number, 3);
+        let context = spans::part_end(program, start, set, number, 1);
+        let body = spans::part_end(program, context, set, number, 2);
+        let end = spans::part_end(program, body, set, number, 3);
         let rule = Rule {
             set,
             number,

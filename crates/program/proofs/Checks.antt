@@ -67,6 +67,17 @@ module _ {words : List ℕ} {s : Scan} {k : ℕ} (w : Checking words s k) where
     pub outside : {b : Bool} → b ≡ in-range r → not b ≡ true → false ≡ program-formed words
     outside {b} q z = left (one-row ∙ rw (sym q ∙ not-true b z))
 
+    -- a row that is known to pass
+    pub row-sure : (t : Scan) → in-range r ≡ true → take-row s r ≡ passed t → Checking words t (k + 1)
+    unfolding go-on
+    row-sure t q z = record {
+      whole = w .whole;
+      inside = omega arith;
+      small = passed-counts r t (w .small) z .small;
+      passed-rows = w .passed-rows ++ (r ∷ []);
+      so-far = w .so-far ∙ one-row ∙ rw (q, z);
+    }
+
     module _ (v : Verdict) (D : List ℕ) (f : verdict-of v D ≡ take-row s r) where
       pub row-refused : (v .number ≡ 0 → ⊥) → false ≡ program-formed words
       unfolding verdict-of go-on is-loaded

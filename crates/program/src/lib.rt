@@ -1,8 +1,10 @@
 // Programs: their rows in lent words, the test that they are well formed, and the load of a program text.
 use model::Row;
+use rows::quick;
 use text::Line;
 ghost use mathlib.Core.Path.{_≡_};
-ghost use Prim.Native.Nat.{_+_, _*_, _≤_};
+ghost use mathlib.Core.Bool.{true};
+ghost use Prim.Native.Nat.{_+_, _*_, _%_, _≤_};
 ghost use lib.ListN.{length};
 ghost use Rattle.table.specs.Rows.{placed};
 ghost use Rattle.program.specs.Rows.{row-at, row-words, program-formed};
@@ -25,13 +27,37 @@ pub fn row_at(words: &[u32], k: usize) -> Row
     }
 }
 
-// "A program is well formed when some text loads to it": refusal 1 of a program.
-pub fn well_formed(program: &[u32]) -> bool
-    ensures { λ b. ⌜ b ≡ program-formed (now (program .entry)) ⌝ }
+// The quick way alone: every row is sure to pass, and the last rule lacks nothing. Most programs are seen to be well formed here.
+fn passes_quickly(program: &[u32]) -> bool
+    requires { ⌜ length (now program) % 8 ≡ 0 ⌝ }
+    ensures { λ b. ⌜ (b ≡ true → program-formed (now (program .entry)) ≡ true) ⌝ }
 {
-    if program.len() % 8 != 0 {
+    let n = program.len() / 8;
+    if 512 < n {
         return false;
     }
+    let mut s = quick::at_first();
+    let mut valued = [0u8; 9];
+    let mut ceilings = [0u8; 256];
+    let mut k: usize = 0;
+    while k < n {
+        let r = row_at(program, k);
+        let q = quick::quick_row(s, &mut valued, &mut ceilings, r);
+        if !q.sure {
+            return false;
+        }
+        let place = q.place;
+        s = place;
+        k += 1;
+    }
+    !quick::lacking(s)
+}
+
+// The exact test, row by row.
+fn passes(program: &[u32]) -> bool
+    requires { ⌜ length (now program) % 8 ≡ 0 ⌝ }
+    ensures { λ b. ⌜ b ≡ program-formed (now (program .entry)) ⌝ }
+{
     let n = program.len() / 8;
     let mut s = rows::at_first();
     let mut ceilings = [0u8; 256];
@@ -50,6 +76,20 @@ pub fn well_formed(program: &[u32]) -> bool
         k += 1;
     }
     !rows::lacking(s)
+}
+
+// "A program is well formed when some text loads to it": refusal 1 of a program. What the quick way leaves open is tested exactly, so that
+// a program that is refused is read twice.
+pub fn well_formed(program: &[u32]) -> bool
+    ensures { λ b. ⌜ b ≡ program-formed (now (program .entry)) ⌝ }
+{
+    if program.len() % 8 != 0 {
+        return false;
+    }
+    if passes_quickly(program) {
+        return true;
+    }
+    passes(program)
 }
 
 // Accepted (number 0) with this many rows, or refused with this number and line.

@@ -1,3 +1,4 @@
+pub mod Eights
 pub mod Laws
 pub mod Unlike
 pub mod Answers

@@ -1,24 +1,24 @@
 -- Candidates that are passed over: none of them fits, so what a row gives from the first of them on is what it gives behind the last.
 use mathlib.Core.Path.{_≡_, refl, sym, ap, _∙_, subst}
-use mathlib.Core.Bool.{Bool, true, false, not, _&&_, _||_, and-eq-true-iff}
+use mathlib.Core.Bool.{Bool, true, false, not, _&&_, _||_, and-eq-true-iff, false≢true}
 use mathlib.Core.Logic.{_≢_}
 use mathlib.Core.List.{List, [], _++_, map}
 use Prim.Native.Nat.{ℕ, zero, suc, _+_, _-_, _*_, _/_, _%_, _≤_, _<_}
 use native.Mathlib.Omega.{arith}
 use lib.Dec.{ltb, eqb}
 use lib.ListN.{length, getD}
-use borrow.Author.Tests.{ltb-true, ltb-false, le-ltb, eqb-false, not-true, not-false}
-use Rattle.lists.specs.Lists.{when, bind}
+use borrow.Author.Tests.{le-leb, ltb-true, ltb-false, le-ltb, eqb-false, not-true, not-false}
+use Rattle.lists.specs.Lists.{within, when, bind}
 use Rattle.lists.proofs.Lists.{or-right}
-use Rattle.lists.proofs.Tests.{or-left}
+use Rattle.lists.proofs.Tests.{and2, or-left}
 use Rattle.model.specs.declared.Row.{Row}
 use Rattle.model.specs.Matching.{Candidate, candidate, Found, found}
 use Rattle.state.specs.declared.Scalars.{Scalars}
-use Rattle.state.specs.View.{plan-at}
+use Rattle.state.specs.View.{atom-at, plan-at}
 use Rattle.queries.specs.declared.Columns.{Columns}
 use Rattle.queries.specs.declared.Wanted.{Wanted}
 use Rattle.queries.specs.View.{candidate-of, Wants, unlike, is-unlike, is-like, lacks}
-use Rattle.queries.specs.Answers.{taken, justification-candidate, count-of, candidate-at, fit-at, hits, Missed, Skipped}
+use Rattle.queries.specs.Answers.{taken, atom-candidate, justification-candidate, count-of, candidate-at, fit-at, hits, Missed, Skipped}
 use Rattle.queries.proofs.Unlike.{unlike-fits-not}
 use Rattle.queries.proofs.Answers.{hits-end, hits-skip}
 
@@ -41,36 +41,15 @@ module _ (i a b : Wanted) where
   pub missed-second : (t : Bool) (k m n : ℕ) → unlike a m ≡ true → Missed i a b (when t (candidate k m n))
   missed-second t k m n e = missed-column t (record { i = k; a = m; b = n; there = t }) (or-right (unlike i k) (or-left _ e))
 
+  pub missed-third : (t : Bool) (k m n : ℕ) → unlike b n ≡ true → Missed i a b (when t (candidate k m n))
+  missed-third t k m n e = missed-column t (record { i = k; a = m; b = n; there = t }) (or-right (unlike i k) (or-right (unlike a m) e))
+
   pub missed-unlike : (x : Columns) (l : List Candidate) → candidate-of x ≡ l → is-like i a b x ≡ false → Missed i a b l
   missed-unlike x l is e = subst (Missed i a b) is (at (x .there) e)
     where
       at : (t : Bool) → (t && not (is-unlike i a b x)) ≡ false → Missed i a b (when t (candidate (x .i) (x .a) (x .b)))
       at false h = missed-absent false (candidate (x .i) (x .a) (x .b)) refl
       at true h = missed-column true x (not-false _ h)
-
--- four numbers in turn, none of which is p
-pub four-others : (f : ℕ → ℕ) (p c w x y z : ℕ) → w ≡ f c → x ≡ f (c + 1) → y ≡ f (c + 2) → z ≡ f (c + 3) → ((not (eqb w p) && not (eqb x p)) && (not (eqb y p) && not (eqb z p))) ≡ true →
-    (k : ℕ) → c ≤ k → k < c + 4 → f k ≢ p
-four-others f p c w x y z a b d e h k l m = at (k - c) (omega arith) (omega arith)
-  where
-    both : ((not (eqb w p) && not (eqb x p)) ≡ true) × ((not (eqb y p) && not (eqb z p)) ≡ true)
-    both = and-eq-true-iff (not (eqb w p) && not (eqb x p)) (not (eqb y p) && not (eqb z p)) .0 h
-
-    low : (not (eqb w p) ≡ true) × (not (eqb x p) ≡ true)
-    low = and-eq-true-iff (not (eqb w p)) (not (eqb x p)) .0 (both .0)
-
-    high : (not (eqb y p) ≡ true) × (not (eqb z p) ≡ true)
-    high = and-eq-true-iff (not (eqb y p)) (not (eqb z p)) .0 (both .1)
-
-    other : (n m : ℕ) → n ≡ f m → not (eqb n p) ≡ true → k ≡ m → f k ≢ p
-    other n m e t q v = eqb-false n p (not-true (eqb n p) t) (e ∙ ap f (sym q) ∙ v)
-
-    at : (j : ℕ) → j < 4 → k ≡ c + j → f k ≢ p
-    at zero g q = other w c a (low .0) (omega arith)
-    at (suc zero) g q = other x (c + 1) b (low .1) (omega arith)
-    at (suc (suc zero)) g q = other y (c + 2) d (high .0) (omega arith)
-    at (suc (suc (suc zero))) g q = other z (c + 3) e (high .1) (omega arith)
-    at (suc (suc (suc (suc j)))) g q = absurd (omega arith)
 
 -- a candidate that is like what is wanted, test by test
 pub not-like : (i a b : Wanted) (x : Columns) → is-unlike i a b x ≡ true → false ≡ is-like i a b x
@@ -169,3 +148,28 @@ module _ (words : List ℕ) (s : Scalars) (r : Row) (f : Found) where
       let h = k .on in
       let e : from + (to - from) ≡ to = omega arith in
       hits-leap (to - from) from (λ c p q. k .missed c p (omega arith) .none r f wi wa wb) ∙ ap (hits words s r f) e
+
+-- no number is known
+abbrev pub unknown : Wanted
+unknown = record { number = 0; known = false }
+
+pub unknown-wants : (x : ℕ) (v : List ℕ) → Wants unknown x v
+unknown-wants x v = record { misses = λ e. absurd (false≢true e) }
+
+-- the candidates of a row that asks for an atom are the atoms
+module _ (s : Scalars) (r : Row) (h : 1 ≤ r .op) (k : r .op ≤ 2) where
+  asks-atoms : within 1 2 (r .op) ≡ true
+  asks-atoms = and2 (le-leb 1 (r .op) h) (le-leb (r .op) 2 k)
+
+  pub atoms-counted : count-of s r ≡ s .atoms
+  unfolding count-of
+  atoms-counted = rw asks-atoms
+
+  pub atom-at-number : (words : List ℕ) (c : ℕ) → atom-candidate (r .p) (atom-at words c) ≡ candidate-at words s r c
+  unfolding candidate-at
+  atom-at-number words c = rw asks-atoms
+
+  pub hits-past-atoms : (words : List ℕ) (f : Found) (a b : Wanted) (from to : ℕ) → Wants a (r .a) (f .values) → Wants b (r .b) (f .values) →
+      Skipped (λ c. atom-candidate (r .p) (atom-at words c)) unknown a b from to → hits words s r f from ≡ hits words s r f to
+  hits-past-atoms words f a b from to wa wb m =
+      hits-skipped words s r f unknown a b from to (unknown-wants (r .i) (f .values)) wa wb (skip-as m (atom-at-number words))

@@ -1,17 +1,17 @@
 -- What the code's structs say in the model's terms, and what the queries ask of the words.
 use mathlib.Core.Path.{_≡_}
-use mathlib.Core.Bool.{Bool, true, not, _&&_, _||_}
+use mathlib.Core.Bool.{Bool, true, false, not, _&&_, _||_}
 use mathlib.Core.Logic.{_≢_}
 use mathlib.Core.List.{List, []}
 use Prim.Native.Nat.{ℕ, _+_, _<_, _≤_}
 use lib.Dec.{eqb}
 use lib.ListN.{length, take, getD}
-use Rattle.lists.specs.Lists.{bit, when}
+use Rattle.lists.specs.Lists.{if_then_else_, bit, when}
 use Rattle.model.specs.declared.Row.{Row}
 use Rattle.model.specs.Configuration.{no-value, value-of}
 use Rattle.model.specs.Matching.{Candidate, candidate, meet, Found}
 use Rattle.state.specs.declared.Scalars.{Scalars}
-use Rattle.state.specs.View.{plan-at, AtomsRise, PlansRise}
+use Rattle.state.specs.View.{atom-p, plan-at, AtomsRise, PlansRise}
 use Rattle.queries.specs.declared.Bindings.{Bindings}
 use Rattle.queries.specs.declared.Columns.{Columns}
 use Rattle.queries.specs.declared.Wanted.{Wanted}
@@ -70,3 +70,19 @@ is-like i a b x = x .there && not (is-unlike i a b x)
 -- none of four numbers is the one that is wanted
 abbrev pub lacks : Wanted → List ℕ → Bool
 lacks a l = (unlike a (getD l 0 0) && unlike a (getD l 1 0)) && (unlike a (getD l 2 0) && unlike a (getD l 3 0))
+
+-- where a number is looked for, and the number: where none is wanted, the predicate in its own column
+abbrev pub column-of : Wanted → ℕ → ℕ
+column-of w at = if w .known then at else atom-p
+
+abbrev pub sought-of : Wanted → ℕ → ℕ
+sought-of w p = if w .known then w .number else p
+
+-- atom c has predicate p, and v and w in the columns y and z
+abbrev pub stands-at : List ℕ → ℕ → ℕ → ℕ → ℕ → ℕ → ℕ → Bool
+stands-at words p y v z w c = eqb (getD words (atom-p + c) 0) p && (eqb (getD words (y + c) 0) v && eqb (getD words (z + c) 0) w)
+
+-- from one number up to another no atom stands so
+pub record Without (words : List ℕ) (p y v z w from to : ℕ) : Type 0 where
+  pub on : from ≤ to
+  pub none : (k : ℕ) → from ≤ k → k < to → stands-at words p y v z w k ≡ false

@@ -4,18 +4,18 @@ use crate::Wanted;
 use model::Row;
 use state::Scalars;
 ghost use mathlib.Core.Path.{_≡_};
-ghost use mathlib.Core.Bool.{true};
+ghost use mathlib.Core.Bool.{true, false};
 ghost use mathlib.Core.Logic.{_≢_};
 ghost use Prim.Native.Nat.{ℕ, _+_, _*_, _/_, _%_, _<_, _≤_};
 ghost use lib.ListN.{length};
 ghost use Rattle.model.specs.Configuration.{has-flag};
-ghost use Rattle.state.specs.View.{atom-at, plan-at};
+ghost use Rattle.state.specs.View.{atom-b, atom-at, plan-at};
 ghost use Rattle.queries.specs.declared.Wanted.{Wanted};
-ghost use Rattle.queries.specs.View.{candidate-of, Limits, unlike, is-like, lacks};
+ghost use Rattle.queries.specs.View.{candidate-of, Limits, unlike, is-like, lacks, column-of, sought-of, stands-at, Without};
 ghost use Rattle.queries.specs.Answers.{atom-candidate, plan-candidate, remainder-candidate, justification-candidate, subgoal-candidate, state-candidate, count-of, candidate-at, Skipped};
 
 // "1 atom (i, p, a, b)": atom k, if its predicate is p.
-fn atom_candidate(words: &[u32], p: u32, k: usize) -> Columns
+pub fn atom_candidate(words: &[u32], p: u32, k: usize) -> Columns
     requires { ⌜ (length (now words) ≡ 2432) × (k < 256) ⌝ }
     ensures { λ x. ⌜ candidate-of x ≡ atom-candidate p (atom-at (now (words .entry)) k) ⌝ }
 {
@@ -220,47 +220,111 @@ fn is_like(i: Wanted, a: Wanted, b: Wanted, x: Columns) -> bool
     !is_unlike(i, x.i)
 }
 
-// Four atoms, from c on, of other predicates: most atoms are passed over so.
-fn are_others(words: &[u32], p: u32, c: usize, n: usize) -> bool
-    requires { ⌜ (length (now words) ≡ 2432) × (c < n) × (n ≤ 256) ⌝ }
-    ensures { λ r. ⌜ (r ≡ true → (c + 4 ≤ n) × ((k : ℕ) → c ≤ k → k < c + 4 → atom-at (now (words .entry)) k .p ≢ p)) ⌝ }
+// The column that a number is looked for in, and the number: where none is wanted, the predicate in its own column.
+fn column(w: Wanted, at: usize) -> usize
+    requires { ⌜ at ≤ atom-b ⌝ }
+    ensures { λ r. ⌜ (r ≡ column-of w at) × (r ≤ atom-b) ⌝ }
 {
-    if n < c + 4 {
-        return false;
+    if w.known {
+        return at;
     }
-    let first = state::atom_at(words, c);
-    let second = state::atom_at(words, c + 1);
-    let third = state::atom_at(words, c + 2);
-    let fourth = state::atom_at(words, c + 3);
-    ((first.p != p) & (second.p != p)) & ((third.p != p) & (fourth.p != p))
+    state::ATOM_P
 }
 
-// The first candidate from `from` on that is like what is wanted, or n; of atoms, and so on by query.
-fn skip_atoms(
+fn sought(w: Wanted, p: u32) -> u32
+    ensures { λ r. ⌜ r ≡ sought-of w p ⌝ }
+{
+    if w.known {
+        return w.number;
+    }
+    p
+}
+
+// Atom c has predicate p, and v and w in the columns y and z.
+fn stands(words: &[u32], p: u32, y: usize, v: u32, z: usize, w: u32, c: usize) -> bool
+    requires { ⌜ (length (now words) ≡ 2432) × (y ≤ atom-b) × (z ≤ atom-b) × (c < 256) ⌝ }
+    ensures { λ r. ⌜ r ≡ stands-at (now (words .entry)) p y v z w c ⌝ }
+{
+    (words[state::ATOM_P + c] == p) & ((words[y + c] == v) & (words[z + c] == w))
+}
+
+// One of eight atoms from c on may be such an atom: without a branch, so that they are compared side by side.
+fn any_of_eight(words: &[u32], p: u32, y: usize, v: u32, z: usize, w: u32, c: usize) -> bool
+    requires { ⌜ (length (now words) ≡ 2432) × (y ≤ atom-b) × (z ≤ atom-b) × (c + 8 ≤ 256) ⌝ }
+    ensures { λ r. ⌜ (r ≡ false → ((k : ℕ) → c ≤ k → k < c + 8 → stands-at (now (words .entry)) p y v z w k ≡ false)) ⌝ }
+{
+    let first = stands(words, p, y, v, z, w, c) | stands(words, p, y, v, z, w, c + 1);
+    let second = stands(words, p, y, v, z, w, c + 2) | stands(words, p, y, v, z, w, c + 3);
+    let third = stands(words, p, y, v, z, w, c + 4) | stands(words, p, y, v, z, w, c + 5);
+    let fourth = stands(words, p, y, v, z, w, c + 6) | stands(words, p, y, v, z, w, c + 7);
+    (first | second) | (third | fourth)
+}
+
+// From `from` on, past eights without such an atom.
+fn pass_eights(
     words: &[u32],
     p: u32,
-    i: Wanted,
-    a: Wanted,
-    b: Wanted,
+    y: usize,
+    v: u32,
+    z: usize,
+    w: u32,
     from: usize,
     n: usize,
 ) -> usize
-    requires { ⌜ (length (now words) ≡ 2432) × (n ≤ 256) ⌝ }
-    ensures { λ r. ⌜ Skipped (λ c. atom-candidate p (atom-at (now (words .entry)) c)) i a b from r ⌝ }
+    requires { ⌜ (length (now words) ≡ 2432) × (y ≤ atom-b) × (z ≤ atom-b) × (from ≤ n) × (n ≤ 256) ⌝ }
+    ensures { λ r. ⌜ Without (now (words .entry)) p y v z w from r × (r ≤ n) ⌝ }
+{
+    let mut c = from;
+    while c + 8 <= n {
+        if any_of_eight(words, p, y, v, z, w, c) {
+            return c;
+        }
+        c += 8;
+    }
+    c
+}
+
+// From `from` on, up to such an atom or n.
+fn pass_ones(
+    words: &[u32],
+    p: u32,
+    y: usize,
+    v: u32,
+    z: usize,
+    w: u32,
+    from: usize,
+    n: usize,
+) -> usize
+    requires { ⌜ (length (now words) ≡ 2432) × (y ≤ atom-b) × (z ≤ atom-b) × (from ≤ n) × (n ≤ 256) ⌝ }
+    ensures { λ r. ⌜ Without (now (words .entry)) p y v z w from r × (r ≤ n) ⌝ }
 {
     let mut c = from;
     while c < n {
-        if are_others(words, p, c, n) {
-            c += 4;
-            continue;
-        }
-        let x = atom_candidate(words, p, c);
-        if is_like(i, a, b, x) {
+        if stands(words, p, y, v, z, w, c) {
             return c;
         }
         c += 1;
     }
     c
+}
+
+// The first candidate from `from` on that is like what is wanted, or n; of atoms, and so on by query.
+pub fn skip_atoms(words: &[u32], p: u32, a: Wanted, b: Wanted, from: usize, n: usize) -> usize
+    requires { ⌜ (length (now words) ≡ 2432) × (n ≤ 256) ⌝ }
+    ensures { λ r. ⌜ ((i : Wanted) → Skipped (λ c. atom-candidate p (atom-at (now (words .entry)) c)) i a b from r) ⌝ }
+{
+    if n <= from {
+        return from;
+    }
+    let y = column(a, state::ATOM_A);
+    let v = sought(a, p);
+    let z = column(b, state::ATOM_B);
+    let w = sought(b, p);
+    if stands(words, p, y, v, z, w, from) {
+        return from;
+    }
+    let c = pass_eights(words, p, y, v, z, w, from + 1, n);
+    pass_ones(words, p, y, v, z, w, c, n)
 }
 
 fn skip_plans(words: &[u32], i: Wanted, a: Wanted, b: Wanted, from: usize, n: usize) -> usize
@@ -449,7 +513,7 @@ pub fn skip(
     }
     let op = r.op;
     if (1 <= op) & (op <= 2) {
-        return skip_atoms(words, r.p, i, a, b, from, s.atoms as usize);
+        return skip_atoms(words, r.p, a, b, from, s.atoms as usize);
     }
     if (3 <= op) & (op <= 4) {
         return skip_plans(words, i, a, b, from, s.plans as usize);

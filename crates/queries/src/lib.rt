@@ -90,7 +90,7 @@ fn take(r: Row, x: Columns, count: usize, values: &mut [u32; 8], matched: &mut [
 }
 
 // The number that an operand must meet, if it is known: a constant, or the value of its variable.
-fn wanted_by(x: u32, values: &[u32]) -> Wanted
+pub fn wanted_by(x: u32, values: &[u32]) -> Wanted
     requires { ⌜ length (now values) ≡ 8 ⌝ }
     ensures { λ w. ⌜ Wants w x (now (values .entry)) ⌝ }
 {
@@ -114,8 +114,41 @@ fn wanted_by(x: u32, values: &[u32]) -> Wanted
     }
 }
 
-// The first candidate from `from` on that fits, into what is found so far: the number behind it, or 0. `before` is what the values are.
-fn next_fit(
+// The first atom from `from` on that fits a row that wants these arguments, into what is found so far: the number behind it, or 0. `before`
+// is what the values are.
+fn next_atom(
+    words: &[u32],
+    s: Scalars,
+    r: Row,
+    a: Wanted,
+    b: Wanted,
+    from: usize,
+    before: [u32; 8],
+    count: usize,
+    values: &mut [u32; 8],
+    matched: &mut [u32; 4],
+) -> usize
+    requires { ⌜ Limits (now words) s × (room r count ≤ 4) × Sized (now values) (now matched) × (now values ≡ before) × (1 ≤ r .op) × (r .op ≤ 2) × Wants a (r .a) before × Wants b (r .b) before ⌝ }
+    ensures sized { λ _. ⌜ Sized (now (values .exit)) (now (matched .exit)) ⌝ }
+    ensures is { λ n. ⌜ Next (hits (now (words .entry)) s r (found-in before (now (matched .entry)) count)) from (count-of s r) (found-in (now (values .exit)) (now (matched .exit)) (room r count)) n ⌝ }
+    ensures back { λ n. ⌜ (n ≡ 0 → now (values .exit) ≡ before) ⌝ }
+    ensures kept { λ _. ⌜ Kept count (now (matched .entry)) (now (matched .exit)) ⌝ }
+{
+    let mut c = candidates::skip_atoms(words, r.p, a, b, from, s.atoms as usize);
+    while c < s.atoms as usize {
+        let x = candidates::atom_candidate(words, r.p, c);
+        c += 1;
+        if take(r, x, count, values, matched) {
+            return c;
+        }
+        *values = before;
+        c = candidates::skip_atoms(words, r.p, a, b, c, s.atoms as usize);
+    }
+    0
+}
+
+// The same of the candidates of any row.
+fn next_candidate(
     words: &[u32],
     s: Scalars,
     r: Row,
@@ -146,6 +179,33 @@ fn next_fit(
         c = candidates::skip(words, s, r, i, a, b, c);
     }
     0
+}
+
+// The same: an atom whose id is not known is looked for in a way of its own, since most rows ask for one.
+fn next_fit(
+    words: &[u32],
+    s: Scalars,
+    r: Row,
+    from: usize,
+    before: [u32; 8],
+    count: usize,
+    values: &mut [u32; 8],
+    matched: &mut [u32; 4],
+) -> usize
+    requires { ⌜ Limits (now words) s × (room r count ≤ 4) × Sized (now values) (now matched) × (now values ≡ before) ⌝ }
+    ensures sized { λ _. ⌜ Sized (now (values .exit)) (now (matched .exit)) ⌝ }
+    ensures is { λ n. ⌜ Next (hits (now (words .entry)) s r (found-in before (now (matched .entry)) count)) from (count-of s r) (found-in (now (values .exit)) (now (matched .exit)) (room r count)) n ⌝ }
+    ensures back { λ n. ⌜ (n ≡ 0 → now (values .exit) ≡ before) ⌝ }
+    ensures kept { λ _. ⌜ Kept count (now (matched .entry)) (now (matched .exit)) ⌝ }
+{
+    let i = wanted_by(r.i, &before);
+    let is_open = (1 <= r.op) & ((r.op <= 2) & !i.known);
+    if !is_open {
+        return next_candidate(words, s, r, from, before, count, values, matched);
+    }
+    let a = wanted_by(r.a, &before);
+    let b = wanted_by(r.b, &before);
+    next_atom(words, s, r, a, b, from, before, count, values, matched)
 }
 
 // What a row gives, from number c on: a query each candidate that fits, a negation what was found before, if none fits. The number

@@ -39,10 +39,15 @@ pub fn with_atom(config: Config, numbers: &[u32; 4096]) -> Config
     requires { ⌜ config .scalars .atoms < 256 ⌝ }
 {
     let scalars = config.scalars;
-    let words = config.words;
-    let more = copied(words, scalars.atoms as usize * 5, 5, numbers);
+    let mut words = config.words;
+    let k = scalars.atoms as usize;
+    words[k] = numbers[0];
+    words[state::ATOM_P + k] = numbers[1];
+    words[state::ATOM_A + k] = numbers[2];
+    words[state::ATOM_B + k] = numbers[3];
+    words[state::ATOM_CYCLE + k] = numbers[4];
     Config {
-        words: more,
+        words,
         scalars: scalars.with_counts(scalars.atoms + 1, scalars.plans),
     }
 }
@@ -53,7 +58,12 @@ pub fn with_plan(config: Config, numbers: &[u32; 4096]) -> Config
 {
     let scalars = config.scalars;
     let words = config.words;
-    let more = copied(words, 1280 + scalars.plans as usize * 18, 18, numbers);
+    let more = copied(
+        words,
+        state::PLANS_AT + scalars.plans as usize * 18,
+        18,
+        numbers,
+    );
     Config {
         words: more,
         scalars: scalars.with_counts(scalars.atoms, scalars.plans + 1),
@@ -93,6 +103,23 @@ fn put_records(
     next
 }
 
+// The atoms, one line each, as far as there are places.
+fn put_atoms(out: &mut [u8; 4096], at: usize, words: &[u32], count: usize) -> usize
+    requires { ⌜ length (now words) ≡ 2432 ⌝ }
+{
+    let mut next = at;
+    let mut k: usize = 0;
+    while k < count {
+        if Config::MOST_ATOMS as usize <= k {
+            return next;
+        }
+        let x = state::atom_at(words, k);
+        next = put_record(out, next, b"atom", &[x.id, x.p, x.a, x.b, x.cycle]);
+        k += 1;
+    }
+    next
+}
+
 // The whole configuration.
 pub fn put_config(out: &mut [u8; 4096], at: usize, words: &[u32], scalars: Scalars) -> usize
     requires { ⌜ length (now words) ≡ 2432 ⌝ }
@@ -103,6 +130,14 @@ pub fn put_config(out: &mut [u8; 4096], at: usize, words: &[u32], scalars: Scala
         b"config",
         &[scalars.phase, scalars.cycle, scalars.next, scalars.waiting],
     );
-    let at = put_records(out, at, b"atom", words, 0, 5, scalars.atoms as usize);
-    put_records(out, at, b"plan", words, 1280, 18, scalars.plans as usize)
+    let at = put_atoms(out, at, words, scalars.atoms as usize);
+    put_records(
+        out,
+        at,
+        b"plan",
+        words,
+        state::PLANS_AT,
+        18,
+        scalars.plans as usize,
+    )
 }

@@ -21,7 +21,7 @@ unfolding at-first
 small-first = omega arith
 
 module _ (r : Row) where
-  small-begun : {s : Scan} → Small s → r .set ≤ 8 → r .rule ≤ 32 → Small (begun s r)
+  pub small-begun : {s : Scan} → Small s → r .set ≤ 8 → r .rule ≤ 32 → Small (begun s r)
   unfolding begun
   small-begun {s} w h k =
       if-either Small (same-rule s r) w

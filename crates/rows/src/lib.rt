@@ -1,5 +1,7 @@
 // The tests on the rows of a program, in the order 5, 3, 4. Most are made of `&`, `|` and `!`, which the model's `&&`, `||` and `not`
 // are; those that lead to others by the row's set or part take that way alone, since every call tests its program.
+pub mod quick;
+
 use model::Row;
 ghost use mathlib.Core.Path.{_≡_};
 ghost use mathlib.Core.List.{List, []};
@@ -21,8 +23,8 @@ pub struct RuleScan {
     pub reasons: u32,
     pub context: u32,
     pub body: u32,
-    pub object: bool,
     pub valued: [u8; 9],
+    pub object: bool,
 }
 
 fn same_rule(s: RuleScan, r: Row) -> bool

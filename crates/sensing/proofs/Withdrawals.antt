@@ -2,7 +2,7 @@
 use mathlib.Core.Path.{_≡_, refl, sym, ap, _∙_, subst}
 use mathlib.Core.Bool.{Bool, true, false, not, true≢false}
 use mathlib.Core.List.{List, [], _∷_, map}
-use Prim.Native.Nat.{ℕ, zero, suc, _+_, _<_, _≤_}
+use Prim.Native.Nat.{ℕ, zero, suc, _+_, _-_, _<_, _≤_}
 use native.Mathlib.Omega.{arith}
 use lib.ListN.{length, drop, drop-of-length-le}
 use Rattle.lists.specs.Lists.{In, first, later, Pairs, put, keep, is-empty}
@@ -176,6 +176,18 @@ module _ (p a b : ℕ) (c : Config) (total : ℕ) (words : List ℕ) (s : Scalar
     rest = λ L q. let r = w .rest L q in
         (r .0, r .1, r .2, r .3 ∙ ap (λ (l : List ℕ). withdraw l (r .0)) (equal-skip p a b (r .0 .config) k (atom-at words k) (subst (λ (d : Config). drop k (d .atoms) ≡ atom-at words k ∷ drop (k + 1) (d .atoms)) (sym (r .1)) (place k h)) e));
   }
+
+  pub withdrawing-past : (gone m k : ℕ) → Withdrawing p a b c total words s gone k → k + m ≤ s .atoms → ((i : ℕ) → k ≤ i → i < k + m → equal-to p a b (atom-at words i) ≡ false) → Withdrawing p a b c total words s gone (k + m)
+  withdrawing-past gone zero k w h e = let z : k ≡ k + 0 = omega arith in subst (λ (i : ℕ). Withdrawing p a b c total words s gone i) z w
+  withdrawing-past gone (suc m) k w h e =
+      let z : k + 1 + m ≡ k + suc m = omega arith in
+      subst (λ (i : ℕ). Withdrawing p a b c total words s gone i) z
+      (withdrawing-past gone m (k + 1) (withdrawing-skip gone k w (omega arith) (e k (omega arith) (omega arith))) (omega arith) (λ i q r. e i (omega arith) (omega arith)))
+
+  pub withdrawing-on : (gone k r : ℕ) → Withdrawing p a b c total words s gone k → k < s .atoms → equal-to p a b (atom-at words k) ≡ false → k + 1 ≤ r → r ≤ s .atoms → ((i : ℕ) → k + 1 ≤ i → i < r → equal-to p a b (atom-at words i) ≡ false) → Withdrawing p a b c total words s gone r
+  withdrawing-on gone k r w h e u v f =
+      let z : k + 1 + (r - (k + 1)) ≡ r = omega arith in
+      subst (λ (i : ℕ). Withdrawing p a b c total words s gone i) z (withdrawing-past gone (r - (k + 1)) (k + 1) (withdrawing-skip gone k w h e) (omega arith) (λ i q x. f i q (omega arith)))
 
   pub withdrawing-end : (gone k : ℕ) → Withdrawing p a b c total words s gone k → s .atoms ≤ k → Withdraws p a b c (config-of words s) gone
   unfolding withdraw

@@ -1,14 +1,17 @@
 -- What the work of sense leaves, whatever the log holds already.
 use mathlib.Core.Path.{_≡_}
+use mathlib.Core.Bool.{Bool, false, _&&_}
+use lib.Dec.{eqb}
 use mathlib.Core.List.{List, map}
-use Prim.Native.Nat.{ℕ, _+_, _≤_}
-use lib.ListN.{getD}
+use Prim.Native.Nat.{ℕ, _+_, _/_, _<_, _≤_}
+use lib.ListN.{length, getD}
 use Rattle.lists.specs.Lists.{count-up}
 use Rattle.table.specs.Rows.{row}
 use Rattle.model.specs.declared.Row.{Row}
 use Rattle.model.specs.Configuration.{Config, last-next}
 use Rattle.model.specs.Log.{Log, Outcome, refused, accepted}
 use Rattle.model.specs.Calls.{Reading, equal-atoms, withdraw, sense-row, sense-rows}
+use Rattle.program.specs.Rows.{row-at}
 use Rattle.state.specs.declared.Scalars.{Scalars}
 use Rattle.state.specs.View.{SoundWords}
 use Rattle.sensing.specs.declared.Reading as Declared
@@ -42,3 +45,14 @@ SensesRow program r c number d gone = (L : Log) → L .config ≡ c → Shows (s
 
 unfoldable pub SensesRows : List Row → List Reading → Config → ℕ → Config → ℕ → Type 0
 SensesRows program rs c number d gone = (L : Log) → L .config ≡ c → Shows (sense-rows program rs L) number d (L .gone + gone)
+
+-- a row of set 0 and op 40
+abbrev pub is-ceiling : Row → Bool
+is-ceiling r = eqb (r .set) 0 && eqb (r .op) 40
+
+-- no ceiling stands before one row or from another on
+pub record Bare (program : List ℕ) (from to : ℕ) : Type 0 where
+  pub ordered : from ≤ to
+  pub inside : to ≤ length program / 8
+  pub before : (k : ℕ) → k < from → is-ceiling (row-at program k) ≡ false
+  pub behind : (k : ℕ) → to ≤ k → k < length program / 8 → is-ceiling (row-at program k) ≡ false

@@ -7,10 +7,10 @@ ghost use mathlib.Core.Bool.{true};
 ghost use Prim.Native.Nat.{_+_, _-_, _*_, _/_, _<_, _≤_};
 ghost use lib.ListN.{length};
 ghost use Rattle.lists.specs.Lists.{every};
-ghost use Rattle.program.specs.Rows.{rows-of};
+ghost use Rattle.program.specs.Rows.{row-at, rows-of};
 ghost use Rattle.state.specs.View.{atom-at, config-of};
 ghost use Rattle.model.specs.Calls.{in-range as is-in-range, applies as does-apply, taken-as};
-ghost use Rattle.sensing.specs.Sensing.{reading-of, reading-at, readings-from, Ready, Withdraws, SensesRow, SensesRows};
+ghost use Rattle.sensing.specs.Sensing.{reading-of, reading-at, readings-from, Ready, Withdraws, SensesRow, SensesRows, is-ceiling, Bare};
 
 // A row of sense.
 pub struct Reading {
@@ -35,13 +35,55 @@ fn applies(r: Row, reading: Reading) -> bool
     (r.set == 0) & ((r.op == 40) & ((r.p == reading.p) & (a <= reading.b)))
 }
 
-// "a sensed p whose second argument is at least a (1 to 65,535) is taken as predicate b (1 to 255), once"
-pub fn taken_as(program: &[u32], reading: Reading) -> u32
-    ensures { λ r. ⌜ r ≡ taken-as (rows-of (now (program .entry))) (reading-of reading) ⌝ }
+// Where ceilings stand: none stands before `from` or from `to` on.
+pub struct Bounds {
+    pub from: usize,
+    pub to: usize,
+}
+
+// The row is a ceiling.
+fn is_ceiling(program: &[u32], k: usize) -> bool
+    requires { ⌜ k * 8 + 8 ≤ length (now program) ⌝ }
+    ensures { λ b. ⌜ b ≡ is-ceiling (row-at (now (program .entry)) k) ⌝ }
+{
+    let set = table::read(program, 8, k, 0);
+    let op = table::read(program, 8, k, 3);
+    (set == 0) & (op == 40)
+}
+
+// From the first ceiling up to behind the last.
+fn ceilings_of(program: &[u32]) -> Bounds
+    ensures { λ r. ⌜ Bare (now (program .entry)) (r .from) (r .to) ⌝ }
 {
     let n = program.len() / 8;
+    let mut from: usize = 0;
+    let mut to: usize = 0;
     let mut k: usize = 0;
     while k < n {
+        if !is_ceiling(program, k) {
+            k += 1;
+            continue;
+        }
+        if to == 0 {
+            from = k;
+            k += 1;
+            to = k;
+            continue;
+        }
+        k += 1;
+        to = k;
+    }
+    Bounds { from, to }
+}
+
+// "a sensed p whose second argument is at least a (1 to 65,535) is taken as predicate b (1 to 255), once"
+pub fn taken_as(program: &[u32], at: Bounds, reading: Reading) -> u32
+    requires { ⌜ Bare (now program) (at .from) (at .to) ⌝ }
+    ensures { λ r. ⌜ r ≡ taken-as (rows-of (now (program .entry))) (reading-of reading) ⌝ }
+{
+    let to = at.to;
+    let mut k = at.from;
+    while k < to {
         let r = program::row_at(program, k);
         if applies(r, reading) {
             return model::constant(r.b);
@@ -68,19 +110,25 @@ pub fn withdraw(words: &mut [u32], scalars: Scalars, p: u32, a: u32, b: u32) -> 
             s = left;
             gone += r.gone;
         } else {
-            k += 1;
+            k = state::pass_unequal(words, p, a, b, k + 1, s.atoms as usize);
         }
     }
     Removal { scalars: s, gone }
 }
 
 // One row of sense.
-pub fn sense_row(program: &[u32], words: &mut [u32], scalars: Scalars, reading: Reading) -> Work
-    requires { ⌜ Ready (now words) scalars ⌝ }
+pub fn sense_row(
+    program: &[u32],
+    at: Bounds,
+    words: &mut [u32],
+    scalars: Scalars,
+    reading: Reading,
+) -> Work
+    requires { ⌜ Ready (now words) scalars × Bare (now program) (at .from) (at .to) ⌝ }
     ensures { λ r. ⌜ SensesRow (rows-of (now (program .entry))) (reading-of reading) (config-of (now (words .entry)) scalars) (r .number) (config-of (now (words .exit)) (r .scalars)) (r .gone) ⌝ }
     ensures ready { λ r. ⌜ (r .number ≡ 0 → Ready (now (words .exit)) (r .scalars)) × (r .gone ≤ 320) ⌝ }
 {
-    let p = taken_as(program, reading);
+    let p = taken_as(program, at, reading);
     if reading.sign == 1 {
         let bar = state::room_for_atom(scalars);
         if bar != 0 {
@@ -125,12 +173,13 @@ pub fn sense_rows(program: &[u32], words: &mut [u32], scalars: Scalars, rows: &[
     ensures { λ r. ⌜ SensesRows (rows-of (now (program .entry))) (readings-from (now (rows .entry)) 0 (length (now (rows .entry)) / 4)) (config-of (now (words .entry)) scalars) (r .number) (config-of (now (words .exit)) (r .scalars)) (r .gone) ⌝ }
     ensures ready { λ r. ⌜ (r .number ≡ 0 → Ready (now (words .exit)) (r .scalars)) ⌝ }
 {
+    let at = ceilings_of(program);
     let n = rows.len() / 4;
     let mut s = scalars;
     let mut gone: u32 = 0;
     let mut k: usize = 0;
     while k < n {
-        let w = sense_row(program, words, s, reading_at(rows, k));
+        let w = sense_row(program, at, words, s, reading_at(rows, k));
         let left = w.scalars;
         if w.number != 0 {
             return Work {

@@ -6,14 +6,15 @@ use Prim.Native.Nat.{ℕ, _+_, _-_, _*_, _<_, _≤_}
 use native.Mathlib.Numerals.{add-one}
 use native.Mathlib.Omega.{arith}
 use lib.ListN.{length, drop, getD, set, length-drop, length-set}
-use lib.Seq.{drop-set-add}
+use lib.Seq.{drop-set-add, getD-set-other}
 use borrow.Author.Tests.{eq-eqb, ne-eqb}
 use Rattle.lists.proofs.Tables.{equal-or-not, keys-differ, tabulate-at, tabulate-same, tabulate-map}
 use Rattle.table.specs.Rows.{row}
-use Rattle.table.proofs.Rows.{row-long, row-set-same, row-set-other, row-set-behind}
+use Rattle.table.proofs.Rows.{row-long, row-set-same, row-set-other}
 use Rattle.model.specs.Configuration.{Plan, Config, with-flags, step-removed, with-subgoal, at-plan, change-plan, add-atom, add-subgoal}
 use Rattle.state.specs.declared.Scalars.{Scalars}
-use Rattle.state.specs.View.{plan-of, atom-of, atom-at, plan-at, atoms-of, plans-of, config-of, PlansRise, LivePlan, atom-counted, with-plan-word}
+use Rattle.state.specs.View.{plans-at, plan-of, atom-at, plan-at, atoms-of, plans-of, config-of, PlansRise, LivePlan, atom-counted, with-plan-word}
+use Rattle.state.proofs.View.{atom-same}
 use Rattle.state.proofs.Made.{config-path}
 
 -- plan k is changed by f, and no other
@@ -30,18 +31,18 @@ plans-changed n W X k f rise h here there =
         (equal-or-not i k)
 
 module _ (W : List ℕ) (k e v : ℕ) (he : e < 18) where
-  pub plan-word-here : plan-at (with-plan-word W k e v) k ≡ plan-of (set (row 18 (drop 1280 W) k) e v)
+  pub plan-word-here : plan-at (with-plan-word W k e v) k ≡ plan-of (set (row 18 (drop plans-at W) k) e v)
   unfolding plan-at with-plan-word
-  plan-word-here = ap plan-of (ap (λ (l : List ℕ). row 18 l k) (drop-set-add 1280 W (k * 18 + e) v) ∙ row-set-same 18 (drop 1280 W) k e v he)
+  plan-word-here = ap plan-of (ap (λ (l : List ℕ). row 18 l k) (drop-set-add plans-at W (k * 18 + e) v) ∙ row-set-same 18 (drop plans-at W) k e v he)
 
   pub plan-word-there : (i : ℕ) → i ≢ k → plan-at (with-plan-word W k e v) i ≡ plan-at W i
   unfolding plan-at with-plan-word
-  plan-word-there i ne = ap plan-of (ap (λ (l : List ℕ). row 18 l i) (drop-set-add 1280 W (k * 18 + e) v) ∙ row-set-other 18 (drop 1280 W) k e v i he ne)
+  plan-word-there i ne = ap plan-of (ap (λ (l : List ℕ). row 18 l i) (drop-set-add plans-at W (k * 18 + e) v) ∙ row-set-other 18 (drop plans-at W) k e v i he ne)
 
   pub plan-word-atoms : (n : ℕ) → n ≤ 256 → atoms-of n (with-plan-word W k e v) ≡ atoms-of n W
-  unfolding atom-at with-plan-word
-  plan-word-atoms n h = tabulate-same n (atom-at (set W (1280 + (k * 18 + e)) v)) (atom-at W)
-      (λ i hi. ap atom-of (row-set-behind 5 W i (1280 + (k * 18 + e)) v (omega arith)))
+  unfolding with-plan-word
+  plan-word-atoms n h = tabulate-same n (atom-at (set W (plans-at + (k * 18 + e)) v)) (atom-at W)
+      (λ i hi. atom-same W (set W (plans-at + (k * 18 + e)) v) i (omega arith) (λ j hj. getD-set-other W (plans-at + (k * 18 + e)) j v 0 (λ q. omega arith)))
 
 -- the columns left, flags and subgoal of a plan's words
 left-set : (r : List ℕ) (v : ℕ) → 5 < length r → v ≡ getD r 3 0 - 1 → plan-of (set r 3 v) ≡ step-removed (plan-of r)
@@ -69,27 +70,27 @@ subgoal-set (a ∷ b ∷ c ∷ d ∷ x ∷ []) v h = absurd (omega arith)
 subgoal-set (a ∷ b ∷ c ∷ d ∷ x ∷ y ∷ r) v h = refl
 
 module _ (W : List ℕ) (k : ℕ) (long : length W ≡ 2432) (few : k < 64) where
-  row-of-plan : 5 < length (row 18 (drop 1280 W) k)
+  row-of-plan : 5 < length (row 18 (drop plans-at W) k)
   row-of-plan =
-      let z : length (drop 1280 W) ≡ length W - 1280 = length-drop 1280 W in
-      let r = row-long 18 (drop 1280 W) k (omega arith) in
+      let z : length (drop plans-at W) ≡ length W - plans-at = length-drop plans-at W in
+      let r = row-long 18 (drop plans-at W) k (omega arith) in
       omega arith
 
   pub left-put : (v : ℕ) → v ≡ plan-at W k .left - 1 → plan-at (with-plan-word W k 3 v) k ≡ step-removed (plan-at W k)
   unfolding plan-at
-  left-put v e = plan-word-here W k 3 v (omega arith) ∙ left-set (row 18 (drop 1280 W) k) v row-of-plan e
+  left-put v e = plan-word-here W k 3 v (omega arith) ∙ left-set (row 18 (drop plans-at W) k) v row-of-plan e
 
   pub flags-put : (g : ℕ → ℕ) (v : ℕ) → v ≡ g (plan-at W k .flags) → plan-at (with-plan-word W k 4 v) k ≡ with-flags g (plan-at W k)
   unfolding plan-at
-  flags-put g v e = plan-word-here W k 4 v (omega arith) ∙ flags-set (row 18 (drop 1280 W) k) g v row-of-plan e
+  flags-put g v e = plan-word-here W k 4 v (omega arith) ∙ flags-set (row 18 (drop plans-at W) k) g v row-of-plan e
 
   pub subgoal-put : (v : ℕ) → plan-at (with-plan-word W k 5 v) k ≡ with-subgoal v (plan-at W k)
   unfolding plan-at
-  subgoal-put v = plan-word-here W k 5 v (omega arith) ∙ subgoal-set (row 18 (drop 1280 W) k) v row-of-plan
+  subgoal-put v = plan-word-here W k 5 v (omega arith) ∙ subgoal-set (row 18 (drop plans-at W) k) v row-of-plan
 
 pub with-plan-word-long : (W : List ℕ) (k e v : ℕ) → length (with-plan-word W k e v) ≡ length W
 unfolding with-plan-word
-with-plan-word-long W k e v = length-set W (1280 + (k * 18 + e)) v
+with-plan-word-long W k e v = length-set W (plans-at + (k * 18 + e)) v
 
 module _ (W : List ℕ) (s : Scalars) (k : ℕ) (live : LivePlan W s k) where
   few : k < 64

@@ -4,3 +4,5 @@ pub mod Made
 pub mod Changed
 pub mod Live
 pub mod Room
+pub mod Near
+pub mod Equal

@@ -14,10 +14,6 @@ use Rattle.model.specs.Deletion.{graph}
 use Rattle.state.specs.declared.Scalars.{Scalars}
 use Rattle.state.specs.declared.Plan as Declared
 
--- an atom's five words: id p a b cycle
-abbrev pub atom-of : List ℕ → Atom
-atom-of r = record { id = getD r 0 0; p = getD r 1 0; a = getD r 2 0; b = getD r 3 0; cycle = getD r 4 0 }
-
 -- a plan's eighteen words: id set rule left flags subgoal, four justifications (rising, then zeros), eight values
 abbrev pub plan-of : List ℕ → Plan
 plan-of r = record {
@@ -44,12 +40,34 @@ plan-by-value q = record {
   flags = q .flags;
 }
 
--- atoms stand from word 0 on, plans from word 1280 on
+-- where each column of the atoms begins, behind that of the ids; and where the plans begin
+abbrev pub atom-p : ℕ
+atom-p = 256
+
+abbrev pub atom-a : ℕ
+atom-a = 512
+
+abbrev pub atom-b : ℕ
+atom-b = 768
+
+abbrev pub atom-cycle : ℕ
+atom-cycle = 1024
+
+abbrev pub plans-at : ℕ
+plans-at = 1280
+
+-- atoms stand by columns
 unfoldable pub atom-at : List ℕ → ℕ → Atom
-atom-at words k = atom-of (row 5 words k)
+atom-at words k = record {
+  id = getD words k 0;
+  p = getD words (atom-p + k) 0;
+  a = getD words (atom-a + k) 0;
+  b = getD words (atom-b + k) 0;
+  cycle = getD words (atom-cycle + k) 0;
+}
 
 unfoldable pub plan-at : List ℕ → ℕ → Plan
-plan-at words k = plan-of (row 18 (drop 1280 words) k)
+plan-at words k = plan-of (row 18 (drop plans-at words) k)
 
 -- As many as the count says, also where it is too high: such a configuration is seen with more atoms or plans than may live, so
 -- that the model refuses it too.
@@ -120,10 +138,10 @@ counts-put n m s = record { phase = s .phase; cycle = s .cycle; next = s .next; 
 
 -- a word of a plan, and the words with another in its place
 abbrev pub plan-word : List ℕ → ℕ → ℕ → ℕ
-plan-word words k column = getD (row 18 (drop 1280 words) k) column 0
+plan-word words k column = getD (row 18 (drop plans-at words) k) column 0
 
 unfoldable pub with-plan-word : List ℕ → ℕ → ℕ → ℕ → List ℕ
-with-plan-word words k column v = set words (1280 + (k * 18 + column)) v
+with-plan-word words k column v = set words (plans-at + (k * 18 + column)) v
 
 -- the words of a plan by value
 abbrev pub plan-words : Declared.Plan → List ℕ

@@ -1,7 +1,9 @@
 // The configuration: atoms and plans as two tables in one slice of words, the scalars beside it by value.
 use model::Atom;
 ghost use mathlib.Core.Path.{_≡_};
-ghost use Prim.Native.Nat.{_+_, _-_, _*_, _<_, _≤_};
+ghost use mathlib.Core.Bool.{false, not};
+ghost use Rattle.lists.specs.Lists.{member};
+ghost use Prim.Native.Nat.{ℕ, _+_, _-_, _*_, _<_, _≤_};
 ghost use lib.ListN.{length, getD};
 ghost use Rattle.lists.specs.Tables.{index-of, trimmed};
 ghost use Rattle.model.specs.Configuration.{empty, no-value, with-flag, without-flag, has-flag, equal-to, with-flags, step-removed, change-plan, add-atom, add-plan, add-subgoal};
@@ -9,6 +11,17 @@ ghost use Rattle.state.specs.View.{atom-at, plan-at, config-of, atom-ids
 
 // The value of a variable that has none.
 pub const NO_VALUE: u32 = 65536;
+
+// Where each column of the atoms begins among the words, behind that of the ids; and where the plans begin.
+pub const ATOM_P: usize = 256;
+
+pub const ATOM_A: usize = 512;
+
+pub const ATOM_B: usize = 768;
+
+pub const ATOM_CYCLE: usize = 1024;
+
+pub const PLANS_AT: usize = 1280;
 
 // Phase, cycle, next id, the plan waiting for an answer or 0, how many atoms and how many plans live.
 pub struct Scalars {
@@ -20,7 +33,7 @@ pub struct Scalars {
     pub plans: u32,
 }
 
-// 256 atoms of 5 words (id p a b cycle), then 64 plans of 18 (id set rule left flags subgoal, four justifications, eight values).
+// 256 atoms by columns (ids, p, a, b, cycles), then 64 plans of 18 (id set rule left flags subgoal, four justifications, eight values).
 pub struct Config {
     pub words: [u32; 2432],
     pub scalars: Scalars,
@@ -177,11 +190,11 @@ pub fn atom_at(words: &[u32], k: usize) -> Atom
     ensures { λ r. ⌜ r ≡ atom-at (now (words .entry)) k ⌝ }
 {
     Atom {
-        id: table::read(words, 5, k, 0),
-        p: table::read(words, 5, k, 1),
-        a: table::read(words, 5, k, 2),
-        b: table::read(words, 5, k, 3),
-        cycle: table::read(words, 5, k, 4),
+        id: words[k],
+        p: words[ATOM_P + k],
+        a: words[ATOM_A + k],
+        b: words[ATOM_B + k],
+        cycle: words[ATOM_CYCLE + k],
     }
 }
 
@@ -194,12 +207,39 @@ pub fn is_equal(words: &[u32], k: usize, p: u32, a: u32, b: u32) -> bool
     (x.p == p) & ((x.a == a) & (x.b == b))
 }
 
+// One of eight atoms from k on is p(a, b): without a branch, so that they are compared side by side.
+fn any_equal(words: &[u32], k: usize, p: u32, a: u32, b: u32) -> bool
+    requires { ⌜ (length (now words) ≡ 2432) × (k + 8 ≤ 256) ⌝ }
+    ensures { λ r. ⌜ (r ≡ false → ((i : ℕ) → k ≤ i → i < k + 8 → equal-to p a b (atom-at (now (words .entry)) i) ≡ false)) ⌝ }
+{
+    let first = is_equal(words, k, p, a, b) | is_equal(words, k + 1, p, a, b);
+    let second = is_equal(words, k + 2, p, a, b) | is_equal(words, k + 3, p, a, b);
+    let third = is_equal(words, k + 4, p, a, b) | is_equal(words, k + 5, p, a, b);
+    let fourth = is_equal(words, k + 6, p, a, b) | is_equal(words, k + 7, p, a, b);
+    (first | second) | (third | fourth)
+}
+
+// From `from` on, past eights of n atoms that have no p(a, b).
+pub fn pass_unequal(words: &[u32], p: u32, a: u32, b: u32, from: usize, n: usize) -> usize
+    requires { ⌜ (length (now words) ≡ 2432) × (from ≤ n) × (n ≤ 256) ⌝ }
+    ensures { λ r. ⌜ (from ≤ r) × (r ≤ n) × ((i : ℕ) → from ≤ i → i < r → equal-to p a b (atom-at (now (words .entry)) i) ≡ false) ⌝ }
+{
+    let mut k = from;
+    while k + 8 <= n {
+        if any_equal(words, k, p, a, b) {
+            return k;
+        }
+        k += 8;
+    }
+    k
+}
+
 // A word of plan k.
 fn plan_word(words: &[u32], k: usize, column: usize) -> u32
     requires { ⌜ (length (now words) ≡ 2432) × (k < 64) × (column < 18) ⌝ }
     ensures { λ r. ⌜ r ≡ plan-word (now (words .entry)) k column ⌝ }
 {
-    table::read(&words[1280..], 18, k, column)
+    table::read(&words[PLANS_AT..], 18, k, column)
 }
 
 // What stands in plan k, column by column.
@@ -311,14 +351,100 @@ pub fn find_atom(words: &[u32], atoms: u32, id: u32) -> usize
     requires { ⌜ (length (now words) ≡ 2432) × (atoms ≤ 256) × AtomsRise atoms (now words) ⌝ }
     ensures { λ r. ⌜ r ≡ index-of id (atom-ids-of atoms (now (words .entry))) ⌝ }
 {
-    table::find(words, 5, atoms as usize, id)
+    table::find(words, 1, atoms as usize, id)
+}
+
+// The same by a guess: the place that is guessed and the one behind it are looked at first. Any guess gives the same answer.
+pub fn find_near(words: &[u32], atoms: u32, id: u32, guess: usize) -> usize
+    requires { ⌜ (length (now words) ≡ 2432) × (atoms ≤ 256) × AtomsRise atoms (now words) ⌝ }
+    ensures { λ r. ⌜ r ≡ index-of id (atom-ids-of atoms (now (words .entry))) ⌝ }
+{
+    let n = atoms as usize;
+    if n <= guess {
+        return find_atom(words, atoms, id);
+    }
+    if words[guess] == id {
+        return guess;
+    }
+    let next = guess + 1;
+    if n <= next {
+        return find_atom(words, atoms, id);
+    }
+    if words[next] == id {
+        return next;
+    }
+    find_atom(words, atoms, id)
+}
+
+// No atom has this id, by a guess of the atom before it.
+pub fn is_free(words: &[u32], atoms: u32, id: u32, guess: usize) -> bool
+    requires { ⌜ (length (now words) ≡ 2432) × (atoms ≤ 256) × AtomsRise atoms (now words) ⌝ }
+    ensures { λ r. ⌜ r ≡ not (member id (atom-ids-of atoms (now (words .entry)))) ⌝ }
+{
+    let n = atoms as usize;
+    if n <= guess {
+        return n <= find_atom(words, atoms, id);
+    }
+    let next = guess + 1;
+    if n <= next {
+        return n <= find_atom(words, atoms, id);
+    }
+    if (words[guess] < id) & (id < words[next]) {
+        return true;
+    }
+    n <= find_atom(words, atoms, id)
+}
+
+// A guess of the atom before an id that no atom has: any number, and it is right where an earlier guess stands near.
+pub fn place_near(words: &[u32], atoms: u32, id: u32, guess: usize) -> usize
+    requires { ⌜ (length (now words) ≡ 2432) × (atoms ≤ 256) ⌝ }
+{
+    let n = atoms as usize;
+    if n <= guess {
+        return one_before(words, n, id);
+    }
+    let next = guess + 1;
+    if n <= next {
+        return one_before(words, n, id);
+    }
+    if (words[guess] < id) & (id < words[next]) {
+        return guess;
+    }
+    let after = next + 1;
+    if n <= after {
+        return one_before(words, n, id);
+    }
+    if (words[next] < id) & (id < words[after]) {
+        return next;
+    }
+    one_before(words, n, id)
+}
+
+// By halves: the last of n atoms whose id is lower, as far as the ids rise.
+fn one_before(words: &[u32], n: usize, id: u32) -> usize
+    requires { ⌜ (length (now words) ≡ 2432) × (n ≤ 256) ⌝ }
+{
+    let mut low: usize = 0;
+    let mut high = n;
+    while low < high {
+        let middle = low + (high - low) / 2;
+        if words[middle] < id {
+            low = middle + 1;
+        } else {
+            high = middle;
+        }
+    }
+    if low == 0 {
+        return 0;
+    }
+    low - 1
 }
 
 pub fn find_plan(words: &[u32], plans: u32, id: u32) -> usize
     requires { ⌜ (length (now words) ≡ 2432) × (plans ≤ 64) × PlansRise plans (now words) ⌝ }
     ensures { λ r. ⌜ r ≡ index-of id (plan-ids-of plans (now (words .entry))) ⌝ }
 {
-    table::find(&words[1280..], 18, plans as usize, id)
+    table::find(&words[PLANS_AT..], 18, plans as usize, id)
 }
 
 // A word of plan k becomes v.
@@ -326,7 +452,7 @@ pub fn put_plan_word(words: &mut [u32], k: usize, column: usize, v: u32)
     requires { ⌜ (length (now words) ≡ 2432) × (k < 64) × (column < 18) ⌝ }
     ensures { λ _. ⌜ now (words .exit) ≡ with-plan-word (now (words .entry)) k column v ⌝ }
 {
-    words[1280 + (k * 18 + column)] = v;
+    words[PLANS_AT + (k * 18 + column)] = v;
 }
 
 // "one more needed": 8 before 9, or 0 where there is room for an atom.
@@ -362,8 +488,11 @@ pub fn append_atom(words: &mut [u32], scalars: Scalars, p: u32, a: u32, b: u32) 
     ensures made { λ r. ⌜ config-of (now (words .exit)) r ≡ add-atom p a b (config-of (now (words .entry)) scalars) ⌝ }
 {
     let n = scalars.atoms as usize;
-    let numbers = [scalars.next, p, a, b, scalars.cycle];
-    table::write(words, 5, n, &numbers);
+    words[n] = scalars.next;
+    words[ATOM_P + n] = p;
+    words[ATOM_A + n] = a;
+    words[ATOM_B + n] = b;
+    words[ATOM_CYCLE + n] = scalars.cycle;
     scalars.atom_made()
 }
 
@@ -421,7 +550,7 @@ pub fn append_plan(
         values,
     };
     let numbers = plan_words(q);
-    table::write(&mut words[1280..], 18, n, &numbers);
+    table::write(&mut words[PLANS_AT..], 18, n, &numbers);
     scalars.plan_made()
 }
 

@@ -1,8 +1,10 @@
 //! A program and its configuration, with the calls that change them.
 
-use crate::raw::{self, ATOM, PLAN, PLANS_AT, PROGRAM, REPORT, ROW, SCALARS, WORDS};
+use crate::formed::Formed;
+use crate::raw::{self, PLAN, PLANS_AT, SCALARS, WORDS};
+use crate::raw::{ATOM_A, ATOM_B, ATOM_CYCLE, ATOM_ID, ATOM_P};
 use crate::refusal::Refusal;
-use crate::report::{self, Changed, Report, Run, Step};
+use crate::report::{self, Changed, Run, Step};
 
 /// Sign (1 add, 2 withdraw), p, a, b.
 pub type Reading = [u32; 4];
@@ -56,130 +58,91 @@ pub struct Plan {
 /// A program and its configuration. What a call may refuse is in [`Refusal`]; a refused call changes nothing.
 #[derive(Clone, Debug)]
 pub struct Controller {
-    program: Vec<u32>,
-    words: Box<[u32; WORDS]>,
-    scalars: [u32; SCALARS],
+    formed: Formed,
 }
 
 impl Controller {
     /// The program of a text, with its initial atoms. Refusals 2 to 5, with the line.
     pub fn load(text: &[u8]) -> Result<Self, Refusal> {
-        let mut program = vec![0; PROGRAM];
-        let mut words = Box::new([0; WORDS]);
-        let mut scalars = [0; SCALARS];
-        let mut report = [0; REPORT];
-        let result = raw::load(
-            text,
-            &mut program,
-            &mut words[..],
-            &mut scalars,
-            &mut report,
-        );
-        if result != 0 {
-            return Err(Refusal::of_load(result));
-        }
-        program.truncate(report[0] as usize * ROW);
-        program.shrink_to_fit();
-        Ok(Controller {
-            program,
-            words,
-            scalars,
-        })
+        let formed = Formed::load(text)?;
+        Ok(Controller { formed })
     }
 
-    /// Goes on with the program of another text. Whether the configuration is one of that program too shows at the next call: if
-    /// not, it is refused with 1.
+    /// Goes on from what [`program`](Self::program), [`words`](Self::words) and [`scalars`](Self::scalars) gave, under the same
+    /// [`raw::VERSION`]. Refused with 1 if it is no program with a configuration of it.
+    pub fn restore(program: &[u32], words: &[u32], scalars: &[u32]) -> Result<Self, Refusal> {
+        let formed = Formed::restore(program, words, scalars)?;
+        Ok(Controller { formed })
+    }
+
+    /// Goes on with the program of another text. Refusals 2 to 5 with the line, and 1 where the configuration is not one of that
+    /// program.
     pub fn replace_program(&mut self, text: &[u8]) -> Result<(), Refusal> {
-        self.program = Controller::load(text)?.program;
-        Ok(())
+        self.formed.replace_program(text)
     }
 
     /// Takes up to 64 readings in order, in phase 0. Refusals 6 to 9.
     pub fn sense(&mut self, rows: &[Reading]) -> Result<Changed, Refusal> {
-        self.call(|program, words, scalars, report| {
-            raw::sense(program, words, scalars, rows.as_flattened(), report)
-        })
-        .map(report::changed)
+        self.formed.sense(rows.as_flattened()).map(report::changed)
     }
 
     /// One step of the deliberation cycle. Refusals 6 and 8 to 11.
     pub fn step(&mut self) -> Result<Step, Refusal> {
-        self.call(raw::step).map(report::step)
+        self.formed.step().map(report::step)
     }
 
     /// Ends the waiting of a plan: whether its external action was done. Refusal 6.
     pub fn answer(&mut self, is_done: bool) -> Result<Changed, Refusal> {
-        self.call(|program, words, scalars, report| {
-            raw::answer(program, words, scalars, u32::from(is_done), report)
-        })
-        .map(report::changed)
+        self.formed.answer(u32::from(is_done)).map(report::changed)
     }
 
     /// Deletes an atom or a plan with all that was raised from it, while no plan waits. Refusals 6 and 12.
     pub fn delete(&mut self, id: u32) -> Result<Changed, Refusal> {
-        self.call(|program, words, scalars, report| {
-            raw::delete(program, words, scalars, id, report)
-        })
-        .map(report::changed)
+        self.formed.delete(id).map(report::changed)
     }
 
     /// Takes steps until phase 0, a plan that waits, the limit (1 to 10,000), or a step that would be refused. Refusals 6 and 7.
     pub fn run(&mut self, limit: u32) -> Result<Run, Refusal> {
-        self.call(|program, words, scalars, report| {
-            raw::run(program, words, scalars, limit, report)
-        })
-        .map(report::run)
-    }
-
-    fn call(
-        &mut self,
-        call: impl FnOnce(&[u32], &mut [u32], &mut [u32], &mut [u32]) -> u32,
-    ) -> Result<Report, Refusal> {
-        let mut report = [0; REPORT];
-        match call(
-            &self.program,
-            &mut self.words[..],
-            &mut self.scalars,
-            &mut report,
-        ) {
-            0 => Ok(report),
-            number => Err(Refusal::of_call(number)),
-        }
+        self.formed.run(limit).map(report::run)
     }
 
     /// 0 sense, 1 to k the rule sets, k + 1 exec.
     pub fn phase(&self) -> u32 {
-        self.scalars[0]
+        self.scalars()[0]
     }
 
     /// How many cycles have ended.
     pub fn cycle(&self) -> u32 {
-        self.scalars[1]
+        self.scalars()[1]
     }
 
     /// The id of the next atom or plan.
     pub fn next_id(&self) -> u32 {
-        self.scalars[2]
+        self.scalars()[2]
     }
 
     /// The plan that waits for an answer.
     pub fn waiting(&self) -> Option<u32> {
-        some(self.scalars[3], 0)
+        some(self.scalars()[3], 0)
     }
 
     /// The live atoms in rising id.
     pub fn atoms(&self) -> impl Iterator<Item = Atom> + '_ {
-        let live = self.scalars[4] as usize;
-        self.words[..PLANS_AT]
-            .chunks_exact(ATOM)
-            .take(live)
-            .map(atom)
+        let live = self.scalars()[4] as usize;
+        let words = self.words();
+        (0..live).map(|k| Atom {
+            id: words[ATOM_ID + k],
+            p: words[ATOM_P + k],
+            a: words[ATOM_A + k],
+            b: words[ATOM_B + k],
+            cycle: words[ATOM_CYCLE + k],
+        })
     }
 
     /// The live plans in rising id.
     pub fn plans(&self) -> impl Iterator<Item = Plan> + '_ {
-        let live = self.scalars[5] as usize;
-        self.words[PLANS_AT..]
+        let live = self.scalars()[5] as usize;
+        self.words()[PLANS_AT..]
             .chunks_exact(PLAN)
             .take(live)
             .map(plan)
@@ -187,33 +150,23 @@ impl Controller {
 
     /// The program's rows, 8 words each, as [`raw`] takes them.
     pub fn program(&self) -> &[u32] {
-        &self.program
+        self.formed.program()
     }
 
     /// The configuration's words, as [`raw`] takes them.
     pub fn words(&self) -> &[u32; WORDS] {
-        &self.words
+        self.formed.words()
     }
 
     /// The configuration's scalars, as [`raw`] takes them.
     pub fn scalars(&self) -> &[u32; SCALARS] {
-        &self.scalars
+        self.formed.scalars()
     }
 }
 
 /// A number, unless it stands for none.
 fn some(n: u32, none: u32) -> Option<u32> {
     (n != none).then_some(n)
-}
-
-fn atom(words: &[u32]) -> Atom {
-    Atom {
-        id: words[0],
-        p: words[1],
-        a: words[2],
-        b: words[3],
-        cycle: words[4],
-    }
 }
 
 fn plan(words: &[u32]) -> Plan {

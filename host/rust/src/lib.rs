@@ -1,7 +1,8 @@
 //! The proved interpreter of meta-APL for hosts in Rust.
 //!
 //! A [`Controller`] holds a program and its configuration and changes them in place. A refused call changes nothing and gives a
-//! [`Refusal`]. Hosts that keep the tables themselves use the calls of [`raw`].
+//! [`Refusal`]. Hosts that keep the tables themselves use the calls of [`raw`], which test at every call what a controller's types
+//! guarantee. Unsafe code stands in `raw` and in `formed`, which says why its calls need no test.
 //!
 //! ```
 //! use juntiqel::{add, Controller, Stop};
@@ -21,6 +22,7 @@
 #![warn(missing_docs)]
 
 mod controller;
+mod formed;
 pub mod raw;
 mod refusal;
 mod report;

@@ -1,6 +1,6 @@
 //! The safe calls: the board's keys that calls can show, every kind of answer, every refusal that a host meets first.
 
-use juntiqel::{add, withdraw, Changed, Controller, Did, How, Made, Refusal, Stop};
+use juntiqel::{add, raw, withdraw, Changed, Controller, Did, How, Made, Refusal, Stop};
 
 const NAMES: &str = "set rule part op i p a b\n";
 const PRINTED: &str =
@@ -176,19 +176,86 @@ fn refusals_in_words() {
     assert_eq!(refusal.to_string(), "refused 6: call out of turn");
 }
 
+/// All that a host can save.
+fn saved(c: &Controller) -> (Vec<u32>, Vec<u32>, Vec<u32>) {
+    (
+        c.program().to_vec(),
+        c.words().to_vec(),
+        c.scalars().to_vec(),
+    )
+}
+
 #[test]
 fn another_program() {
     let mut c = after_printed_run();
-    let rows = c.program().to_vec();
+    let before = saved(&c);
     assert_eq!(
         c.replace_program(b"").unwrap_err(),
         Controller::load(b"").unwrap_err()
     );
-    assert_eq!(c.program(), rows);
     // without rule 1 the plan is no plan of the program
-    c.replace_program(&text("")).unwrap();
-    assert_eq!(refused(c.sense(&[])), 1);
-    c.replace_program(&text(PRINTED)).unwrap();
-    assert_eq!(c.program(), rows);
+    let not_of_it = Refusal {
+        number: 1,
+        line: None,
+    };
+    assert_eq!(c.replace_program(&text("")), Err(not_of_it));
+    assert_eq!(saved(&c), before);
     assert_eq!(c.sense(&[]), changed(0, 0));
+    let more = format!("{PRINTED}|3 1 2 1 -9 3 -9 -9|3 1 3 21 -9 4 0 0");
+    c.replace_program(&text(&more)).unwrap();
+    assert_eq!(c.program().len(), before.0.len() + 16);
+    assert_eq!(c.run(3).unwrap().steps, 3);
+    // in phase 3 it is a configuration of three sets or more, or of two in their exec
+    assert_eq!(c.phase(), 3);
+    c.replace_program(&text(PRINTED)).unwrap();
+    assert_eq!(c.program(), before.0);
+}
+
+#[test]
+fn what_was_saved_goes_on() {
+    let mut c = load(PRINTED);
+    c.sense(&[add(1, 3, 1200)]).unwrap();
+    let mut other = c.clone();
+    while c.phase() != 0 {
+        let (program, words, scalars) = saved(&other);
+        other = Controller::restore(&program, &words, &scalars).unwrap();
+        assert_eq!(saved(&other), (program, words, scalars));
+        assert_eq!(other.step(), c.step());
+        assert_eq!(saved(&other), saved(&c));
+    }
+    assert_eq!(other.sense(&[withdraw(1, 3, 1200)]), changed(0, 3));
+}
+
+#[test]
+fn what_is_no_pair_is_not_restored() {
+    let (program, words, scalars) = saved(&after_printed_run());
+    let restored = |program: &[u32], words: &[u32], scalars: &[u32]| {
+        refused(Controller::restore(program, words, scalars))
+    };
+    assert_eq!(restored(&[], &words, &scalars), 1);
+    assert_eq!(restored(&program[16..], &words, &scalars), 1);
+    assert_eq!(restored(&program[..program.len() - 1], &words, &scalars), 1);
+    // the atom that justifies the plan has another id; the plan has no steps left but a subgoal
+    for (place, word) in [(0, 2), (raw::PLANS_AT + 3, 0)] {
+        let mut wrong = words.clone();
+        wrong[place] = word;
+        assert_eq!(restored(&program, &wrong, &scalars), 1);
+    }
+    for (place, word) in [(0, 9), (2, 3), (3, 2), (4, 257), (5, u32::MAX)] {
+        let mut wrong = scalars.clone();
+        wrong[place] = word;
+        assert_eq!(restored(&program, &words, &wrong), 1);
+    }
+}
+
+#[test]
+fn tables_of_another_length_are_not_restored() {
+    let (program, words, scalars) = saved(&after_printed_run());
+    let longer = |table: &[u32]| [table, &[0]].concat();
+    for words in [&[][..], &words[1..], &longer(&words)] {
+        assert_eq!(refused(Controller::restore(&program, words, &scalars)), 1);
+    }
+    for scalars in [&[][..], &scalars[1..], &longer(&scalars)] {
+        assert_eq!(refused(Controller::restore(&program, &words, scalars)), 1);
+    }
 }

@@ -1,6 +1,7 @@
 //! The calls on lent words: wrong lengths, words beside what was lent, and what is no program or configuration.
 
 use juntiqel::raw::{self, PLANS_AT, PROGRAM, REPORT, ROW, SCALARS, WORDS};
+use juntiqel::raw::{ATOM_A, ATOM_B, ATOM_CYCLE, ATOM_ID, ATOM_P};
 
 const TEXT: &[u8] = b"set rule part op i p a b
 1 1 1 1 -1 1 -2 -3
@@ -47,9 +48,10 @@ struct Host {
     report: Table,
 }
 
-/// The calls by number: sense, step, answer, delete, run, load.
-const CALLS: usize = 6;
-const LOAD: usize = 5;
+/// The calls by number: sense, step, answer, delete, run, check, load. A check has no report.
+const CALLS: usize = 7;
+const CHECK: usize = 5;
+const LOAD: usize = 6;
 
 impl Host {
     fn empty() -> Self {
@@ -90,6 +92,7 @@ impl Host {
             2 => raw::answer(program, words, scalars, 1, report),
             3 => raw::delete(program, words, scalars, 1, report),
             4 => raw::run(program, words, scalars, 10, report),
+            CHECK => raw::check(program, words, scalars),
             _ => return self.load(),
         })
     }
@@ -126,7 +129,8 @@ fn a_table_of_another_length_is_refused_with_1() {
             host.refuses(k, 1);
             host.scalars.length = SCALARS;
             host.report.length = longer(REPORT);
-            host.refuses(k, 1);
+            let number = u64::from(k != CHECK);
+            host.refuses(k, number);
         }
     }
     let mut host = Host::loaded();
@@ -174,7 +178,7 @@ fn what_is_no_configuration_is_refused_with_1() {
 fn words_beside_the_tables_are_kept() {
     let mut host = Host::loaded();
     assert!(host.is_kept_beside());
-    for k in [0, 4, 2, 1, 3] {
+    for k in [CHECK, 0, 4, CHECK, 2, 1, 3, CHECK] {
         assert_eq!(host.call(k), 0, "call {k}");
         assert!(host.is_kept_beside(), "call {k}");
     }
@@ -202,7 +206,8 @@ fn reports() {
         ]
     );
     let words = host.words.lent();
-    assert_eq!(words[..5], [1, 1, 5, 6, 0]);
+    let columns = [ATOM_ID, ATOM_P, ATOM_A, ATOM_B, ATOM_CYCLE];
+    assert_eq!(columns.map(|column| words[column]), [1, 1, 5, 6, 0]);
     assert_eq!(
         words[PLANS_AT..PLANS_AT + 10],
         [2, 1, 1, 1, 2, 0, 1, 0, 0, 0]

@@ -1,4 +1,5 @@
 -- The rows kept are the plans kept; the words before them stand.
+use Rattle.state.specs.View.{plans-at}
 use mathlib.Core.Path.{_≡_, ap, _∙_}
 use mathlib.Core.List.{[]}
 use Prim.Native.Nat.{_-_}
@@ -43,7 +44,7 @@ returns c =
     let a = s .args in
     let W = a .words .now in
     let k = c .before .before .keep in
-    let long : length (k .last .0) ≡ length W - 1280 = k .kept .0 ∙ ap length (rest-is 1280 W []) ∙ length-drop 1280 W in (
+    let long : length (k .last .0) ≡ length W - plans-at = k .kept .0 ∙ ap length (rest-is plans-at W []) ∙ length-drop plans-at W in (
       (k .ensures .0, plans-kept W (k .last .0) (a .plans) (k .result) (a .left .now) (s .pre .0) (k .ensures .1)),
       λ n h. atoms-stand W (k .last .0) n h (s .pre .0) long,
     )

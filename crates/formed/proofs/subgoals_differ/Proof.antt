@@ -17,23 +17,23 @@ use Rattle.formed.proofs.subgoals_differ.Statement.{statement}
 use Rattle.formed.proofs.subgoals_differ.Tie as tie
 
 abbrev Inv-loop : tie.InvT-loop
-Inv-loop words atoms plans n marks₀ k₀ marks k = Marked words atoms marks k
+Inv-loop words atoms plans n marks₀ guess₀ k₀ marks guess k = Marked words atoms marks k
 
 abbrev μ-loop : tie.MeasureT-loop
-μ-loop words atoms plans n marks₀ k₀ marks k = n - k
+μ-loop words atoms plans n marks₀ guess₀ k₀ marks guess k = n - k
 
 -- the subgoal stands among the atoms
-place : (c : tie.After-find-atom Inv-loop μ-loop) →
+place : (c : tie.After-find-near Inv-loop μ-loop) →
     let a = c .before .before .before .before .before .before .args in
     let ids = atom-ids-of (a .atoms) (a .words .now) in
-    (c .find-atom .result ≡ index-of (plan-at (a .words .now) (c .before .before .before .before .loop .k) .subgoal) ids) × (c .find-atom .result < a .atoms)
+    (c .find-near .result ≡ index-of (plan-at (a .words .now) (c .before .before .before .before .loop .k) .subgoal) ids) × (c .find-near .result < a .atoms)
 place c =
     let s = c .before .before .before .before .before .before in
     let a = s .args in
     let W = a .words .now in
     let ids = atom-ids-of (a .atoms) W in
     let n = plan-at W (c .before .before .before .before .loop .k) .subgoal in
-    let e : c .find-atom .result ≡ index-of n ids = c .find-atom .ensures ∙ ap (λ (n : ℕ). index-of n ids) (c .before .before .plan-subgoal .ensures) in
+    let e : c .find-near .result ≡ index-of n ids = c .find-near .ensures ∙ ap (λ (n : ℕ). index-of n ids) (c .before .before .plan-subgoal .ensures) in
     let m : member n ids ≡ true = s .pre .2 (c .before .before .before .before .loop .k) (omega arith) (λ z. c .before .if1 .taken (c .before .before .plan-subgoal .ensures ∙ z)) in
     let h : index-of n ids < length ids = ltb-true (index-of n ids) (length ids) (index-member n ids ∙ m) in
     let l = atom-ids-long W (a .atoms) in
@@ -45,8 +45,8 @@ loop-holds c = marked-none (c .before .args .words .now) (c .before .args .atoms
 plan-subgoal-requires : tie.Need-plan-subgoal-requires Inv-loop μ-loop
 plan-subgoal-requires c κs = search needs
 
-find-atom-requires : tie.Need-find-atom-requires Inv-loop μ-loop
-find-atom-requires c κs = search needs
+find-near-requires : tie.Need-find-near-requires Inv-loop μ-loop
+find-near-requires c κs = search needs
 
 array-read-if2 : tie.Need-array-read-if2 Inv-loop μ-loop
 array-read-if2 c = let p = place c .1 in search needs
@@ -56,7 +56,7 @@ returns c =
     let s = c .before .before .before .before .before .before .before in
     let b = c .before .before .before .before .before in
     let p = place (c .before) in
-    sym (marked-twice (s .args .words .now) (s .args .atoms) (s .pre .0) (b .loop .marks) (b .loop .k) (b .loop .inv) (c .before .find-atom .result) (p .0) (p .1) (s .args .plans) (omega arith) (λ z. c .before .before .if1 .taken (c .before .before .before .plan-subgoal .ensures ∙ z)) (c .if2 .taken))
+    sym (marked-twice (s .args .words .now) (s .args .atoms) (s .pre .0) (b .loop .marks) (b .loop .k) (b .loop .inv) (c .before .find-near .result) (p .0) (p .1) (s .args .plans) (omega arith) (λ z. c .before .before .if1 .taken (c .before .before .before .plan-subgoal .ensures ∙ z)) (c .if2 .taken))
 
 array-write-marks : tie.Need-array-write-marks Inv-loop μ-loop
 array-write-marks c = let p = place (c .before) .1 in search needs
@@ -75,7 +75,7 @@ loop-again c =
     let n = s .args .atoms in
     ⊎-elim
     (λ w.
-    let p = place (record { before = record { before = c .before; if1 = w .0 }; find-atom = w .1 }) in
+    let p = place (record { before = record { before = c .before; if1 = w .0 }; find-near = w .1 }) in
     rw (w .3) (marked-more W n (s .pre .0) (b .loop .marks) (b .loop .k) (b .loop .inv) (w .1 .result) (p .0) (p .1) (w .2 .left)))
     (λ w. rw (w .1) (marked-past W n (s .pre .0) (b .loop .marks) (b .loop .k) (b .loop .inv) (sym (c .before .plan-subgoal .ensures) ∙ w .0 .left)))
     (c .if1 .came)
@@ -91,7 +91,7 @@ subgoals-differ-spec =
     μ-loop
     loop-holds
     plan-subgoal-requires
-    find-atom-requires
+    find-near-requires
     array-read-if2
     returns
     array-write-marks

@@ -19,13 +19,13 @@ use Rattle.matching.proofs.ask_later.Statement.{statement}
 use Rattle.matching.proofs.ask_later.Tie as tie
 
 abbrev Inv-loop : tie.InvT-loop
-Inv-loop program words s k list count values₀ matched₀ before body left₀ values matched left = Sized values matched × (values ≡ before) × Kept count matched₀ matched
+Inv-loop program words s k list count values₀ matched₀ filter before body left₀ values matched left = Sized values matched × (values ≡ before) × Kept count matched₀ matched
 
 abbrev μ-loop : tie.MeasureT-loop
-μ-loop program words s k list count values₀ matched₀ before body left₀ values matched left = left
+μ-loop program words s k list count values₀ matched₀ filter before body left₀ values matched left = left
 
 loop-holds : tie.Need-loop-holds Inv-loop μ-loop
-loop-holds c = (c .before .before .before .pre .4, refl, refl)
+loop-holds c = (c .before .before .before .before .pre .4, refl, refl)
 
 cast-j : tie.Need-cast-j Inv-loop μ-loop
 cast-j c = omega arith
@@ -44,7 +44,7 @@ sub-row-at c = search needs
 
 row-at-requires : tie.Need-row-at-requires Inv-loop μ-loop
 row-at-requires c κs =
-    let s = c .before .before .before .before .before .before .before in
+    let s = c .before .before .before .before .before .before .before .before in
     let p = s .pre .0 in
     let q = p .ordered in
     let n = p .inside in
@@ -53,10 +53,10 @@ row-at-requires c κs =
     row-inside (s .args .program .now) _ (omega arith)
 
 slice-aggregate-is-settled : tie.Need-slice-aggregate-is-settled Inv-loop μ-loop
-slice-aggregate-is-settled c = sym (c .before .before .before .before .before .before .before .before .before .pre .4 .0)
+slice-aggregate-is-settled c = sym (c .before .before .before .before .before .before .before .before .before .before .pre .4 .0)
 
 is-settled-requires : tie.Need-is-settled-requires Inv-loop μ-loop
-is-settled-requires c κs = c .before .before .before .before .before .before .before .before .before .pre .4 .0
+is-settled-requires c κs = c .before .before .before .before .before .before .before .before .before .before .pre .4 .0
 
 next-answer-requires : tie.Need-next-answer-requires Inv-loop μ-loop
 next-answer-requires c κs =
@@ -64,10 +64,10 @@ next-answer-requires c κs =
     let e = i3 .before in
     let g = e .before .before in
     let l = g .before .before .before .before in
-    let p = l .before .before .before .before .pre in
+    let p = l .before .before .before .before .before .pre in
     let few = p .3 in
     let z : bit (eqb (g .row-at .result .part) 1) ≡ 0 = ap bit (ne-eqb (g .row-at .result .part) 1 (e .is-settled .ensures (i3 .if3 .taken) .not-noted)) in
-    (p .1, omega (arith, few, z), l .loop .inv .0, l .loop .inv .1)
+    (p .1, omega (arith, few, z), l .loop .inv .0, l .loop .inv .1, p .5)
 
 operands-requires : tie.Need-operands-requires Inv-loop μ-loop
 operands-requires c κs = search needs
@@ -81,7 +81,7 @@ returns-3 c =
     let g = e .before .before in
     let i1 = g .before .before in
     let l = i1 .before .before in
-    let s = l .before .before .before .before in
+    let s = l .before .before .before .before .before in
     let a = s .args in
     let i = l .loop .inv in
     let n = x .next-answer .ensures in
@@ -108,7 +108,7 @@ loop-again c =
     let g = c .before .before .before in
     let l = g .before .before .before .before in
     let i = l .loop .inv in
-    let s = l .before .before .before .before in
+    let s = l .before .before .before .before .before in
     let n = s .args .count in
     let long = s .pre .4 .0 in (
       ⊎-elim (λ w. (ap length (w .5) ∙ long, ap length (w .6) ∙ w .3 .ensures .0 .1)) (λ w. (ap length (w .1) ∙ i .0 .0, ap length (w .2) ∙ i .0 .1)) (c .if3 .came),

@@ -12,7 +12,7 @@ use Rattle.matching.proofs.glance.Tie as tie
 returns : tie.Need-returns
 returns c =
     let y = c .before in
-    let s = y .before .before .before .before .before .before .before .before .before in
+    let s = y .before .before .before .before .before .before .before .before .before .before in
     let a = s .args in
     let p = s .pre in
     let low = p .2 in
@@ -26,7 +26,7 @@ returns c =
     )
 
 returns-2 : tie.Need-returns-2
-returns-2 c = let p = c .before .before .before .before .before .before .pre in (p .4, (λ n. absurd (n refl), (refl, refl)))
+returns-2 c = let p = c .before .before .before .before .before .before .before .pre in (p .4, (λ n. absurd (n refl), (refl, refl)))
 
 pub glance-spec : {M : Type 1} → statement M
 glance-spec = tie.close (tie.spec (λ c. search needs) (λ c κs. search needs) returns returns-2 (λ c κs. search needs) (λ c κs. search needs) (λ c. search needs) (λ c. search needs))

@@ -27,17 +27,17 @@ use Rattle.matching.proofs.search_rest.Statement.{statement}
 use Rattle.matching.proofs.search_rest.Tie as tie
 
 abbrev Inv-loop : tie.InvT-loop
-Inv-loop program words s rule k from values₀ matched₀ before body hints₀ known₀ r gives n c₀ values matched hints known c =
+Inv-loop program words s rule k from values₀ matched₀ before body hints₀ known₀ filter r gives n c₀ values matched hints known c =
     Sized values matched × (values ≡ before)
     × (first-of (bind (answers words s (row-at program k) (found-in before [] 0) from) (counted program words s rule (k + 1)))
     ≡ first-of (bind (answers words s r (found-in before [] 0) c) (counted program words s rule (k + 1)) ++ []))
     × Remembered program words s rule known × (length hints ≡ 16)
 
 abbrev μ-loop : tie.MeasureT-loop
-μ-loop program words s rule k from values₀ matched₀ before body hints₀ known₀ r gives n c₀ values matched hints known c = width s r - c
+μ-loop program words s rule k from values₀ matched₀ before body hints₀ known₀ filter r gives n c₀ values matched hints known c = width s r - c
 
 abbrev origin : tie.After-row-at Inv-loop μ-loop → tie.Start Inv-loop μ-loop
-origin g = g .before .before .before .before .before .before
+origin g = g .before .before .before .before .before .before .before
 
 -- what was found before row k
 abbrev found : tie.After-row-at Inv-loop μ-loop → Found
@@ -51,7 +51,7 @@ left g = let a = origin g .args in reasons-next (a .program .now) (a .k) (a .rul
 -- the answer of row k
 answered : (d : tie.Else1 Inv-loop μ-loop) →
     let x = d .before in
-    let l = x .before .before .before in
+    let l = x .before .before .before .before in
     let i = l .before in
     let g = i .before .before .before in
     let a = origin g .args in
@@ -59,7 +59,7 @@ answered : (d : tie.Else1 Inv-loop μ-loop) →
     (found-in (x .next-answer .last .1 .1 .1 .1 .1 .1 .0) (x .next-answer .last .1 .1 .1 .1 .1 .1 .1 .0) (i .given-ids .result) ∷ answers (a .words .now) (a .s) (g .row-at .result) (found g) (x .next-answer .result))
 answered d =
     let x = d .before in
-    let i = x .before .before .before .before in
+    let i = x .before .before .before .before .before in
     let g = i .before .before .before in
     let a = origin g .args in
     let h : 0 + given-ids (g .row-at .result) ≡ i .given-ids .result = let e = i .given-ids .ensures in omega arith in
@@ -77,19 +77,22 @@ of-rule-requires c κs =
     let n = p .0 .inside in
     (omega arith, omega arith, p .1)
 
+of-atoms-requires : tie.Need-of-atoms-requires Inv-loop μ-loop
+of-atoms-requires c κs = let p = c .before .before .before .before .before .pre .1 in (p .long, p .atoms)
+
 row-at-requires : tie.Need-row-at-requires Inv-loop μ-loop
 row-at-requires c κs =
-    let s = c .before .before .before .before .before in
+    let s = c .before .before .before .before .before .before in
     let low = s .pre .2 in
     let q = s .pre .0 .ordered in
     let n = s .pre .0 .inside in
     row-inside (s .args .program .now) (s .args .k) (omega arith)
 
 slice-aggregate-changed : tie.Need-slice-aggregate-changed Inv-loop μ-loop
-slice-aggregate-changed c = sym (c .before .before .before .before .before .before .before .pre .4 .0)
+slice-aggregate-changed c = sym (c .before .before .before .before .before .before .before .before .pre .4 .0)
 
 changed-requires : tie.Need-changed-requires Inv-loop μ-loop
-changed-requires c κs = c .before .before .before .before .before .before .before .pre .4 .0
+changed-requires c κs = c .before .before .before .before .before .before .before .before .pre .4 .0
 
 loop-holds : tie.Need-loop-holds Inv-loop μ-loop
 loop-holds c =
@@ -104,19 +107,25 @@ loop-holds c =
       search needs,
     )
 
+slice-aggregate-next-answer : tie.Need-slice-aggregate-next-answer Inv-loop μ-loop
+slice-aggregate-next-answer c =
+    let l = c .before .before .before in
+    let g = l .before .before .before .before in
+    sym (g .before .of-atoms .ensures .long)
+
 next-answer-requires : tie.Need-next-answer-requires Inv-loop μ-loop
 next-answer-requires c κs =
-    let l = c .before .before in
+    let l = c .before .before .before in
     let g = l .before .before .before .before in
     let p = origin g .pre in
     let n = left g in
     let q = p .3 in
-    (p .1, omega arith, l .loop .inv .0, l .loop .inv .1)
+    (p .1, omega arith, l .loop .inv .0, l .loop .inv .1, g .before .of-atoms .ensures)
 
 returns : tie.Need-returns Inv-loop μ-loop
 returns c =
     let x = c .before in
-    let l = x .before .before .before in
+    let l = x .before .before .before .before in
     let g = l .before .before .before .before in
     let a = origin g .args in
     let e = x .next-answer .ensures in
@@ -127,22 +136,28 @@ returns c =
 
 add-search-long : tie.Need-add-search-long Inv-loop μ-loop
 add-search-long c =
-    let s = origin (c .before .before .before .before .before .before .before .before) in
+    let s = origin (c .before .before .before .before .before .before .before .before .before) in
     let low = s .pre .2 in
     let q = s .pre .0 .ordered in
     let n = s .pre .0 .inside in
     omega arith
 
 slice-aggregate-search-long : tie.Need-slice-aggregate-search-long Inv-loop μ-loop
-slice-aggregate-search-long c = sym (c .before .before .before .before .before .before .before .loop .inv .4)
+slice-aggregate-search-long c = sym (c .before .before .before .before .before .before .before .before .loop .inv .4)
 
 slice-aggregate-search-long-2 : tie.Need-slice-aggregate-search-long-2 Inv-loop μ-loop
-slice-aggregate-search-long-2 c = sym (c .before .before .before .before .before .before .before .before .loop .inv .3 .long)
+slice-aggregate-search-long-2 c = sym (c .before .before .before .before .before .before .before .before .before .loop .inv .3 .long)
+
+slice-aggregate-search-long-3 : tie.Need-slice-aggregate-search-long-3 Inv-loop μ-loop
+slice-aggregate-search-long-3 c =
+    let x = c .before .before .before .before .before .before in
+    let g = x .before .before .before .before .before .before .before .before in
+    sym (g .before .of-atoms .ensures .long)
 
 search-long-requires : tie.Need-search-long-requires Inv-loop μ-loop
 search-long-requires c κs =
-    let x = c .before .before .before .before .before in
-    let l = x .before .before .before in
+    let x = c .before .before .before .before .before .before in
+    let l = x .before .before .before .before in
     let i = l .before in
     let g = i .before .before .before in
     let p = origin g .pre in
@@ -150,13 +165,13 @@ search-long-requires c κs =
     let q = p .3 in
     let k = ids-few (g .row-at .result) in
     let e = i .given-ids .ensures in
-    (p .0, p .1, omega arith, x .next-answer .ensures .0, g .before .before .of-body .ensures, l .loop .inv .3)
+    (p .0, p .1, omega arith, x .next-answer .ensures .0, g .before .before .before .of-body .ensures, l .loop .inv .3, g .before .of-atoms .ensures)
 
 returns-2 : tie.Need-returns-2 Inv-loop μ-loop
 returns-2 c =
     let q = c .before .before .before in
-    let d = q .before .before .before .before .before in
-    let l = d .before .before .before .before in
+    let d = q .before .before .before .before .before .before in
+    let l = d .before .before .before .before .before in
     let e = q .search-long .ensures in
     let long = c .if2 .taken in (
       e .0,
@@ -171,8 +186,8 @@ returns-3 c =
     let o = c .before in
     let i2 = o .before in
     let q = i2 .before .before .before in
-    let d = q .before .before .before .before .before in
-    let l = d .before .before .before .before in
+    let d = q .before .before .before .before .before .before in
+    let l = d .before .before .before .before .before in
     let y = l .before .before in
     let g = y .before .before in
     let s = origin g in
@@ -187,7 +202,7 @@ returns-3 c =
 
 loop-less : tie.Need-loop-less Inv-loop μ-loop
 loop-less c =
-    let d = c .before .before .before .before .before .before .before .before .before .before in
+    let d = c .before .before .before .before .before .before .before .before .before .before .before in
     let on = d .before .next-answer .ensures .1 .0 .further (d .if1 .left) in
     omega arith
 
@@ -195,9 +210,9 @@ loop-again : tie.Need-loop-again Inv-loop μ-loop
 loop-again c =
     let i2 = c .before .before in
     let q = i2 .before .before .before in
-    let d = q .before .before .before .before .before in
+    let d = q .before .before .before .before .before .before in
     let x = d .before in
-    let l = x .before .before .before in
+    let l = x .before .before .before .before in
     let i = l .before in
     let g = i .before .before .before in
     let s = origin g in
@@ -215,4 +230,4 @@ loop-again c =
 pub search-rest-spec : {M : Type 1} → statement M
 search-rest-spec =
     tie.close
-    (tie.spec Inv-loop μ-loop of-body-requires of-rule-requires row-at-requires slice-aggregate-changed changed-requires (λ c κs. search needs) loop-holds next-answer-requires returns add-search-long slice-aggregate-search-long slice-aggregate-search-long-2 search-long-requires returns-2 (λ c κs. search needs) returns-3 loop-less loop-again)
+    (tie.spec Inv-loop μ-loop of-body-requires of-rule-requires of-atoms-requires row-at-requires slice-aggregate-changed changed-requires (λ c κs. search needs) loop-holds slice-aggregate-next-answer next-answer-requires returns add-search-long slice-aggregate-search-long slice-aggregate-search-long-2 slice-aggregate-search-long-3 search-long-requires returns-2 (λ c κs. search needs) returns-3 loop-less loop-again)

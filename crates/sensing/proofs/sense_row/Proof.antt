@@ -9,12 +9,6 @@ use Rattle.state.proofs.Room.{atoms-of-bar, bar-free}
 use borrow.Author.Needs.{needs}
 use Rattle.sensing.proofs.sense_row.Statement.{statement}
 use Rattle.sensing.proofs.sense_row.Tie as tie
-use Rattle.sensing.proofs.sense_row.Reads as reads
-use Rattle.sensing.proofs.sense_row.Lts as lts
-use Rattle.state.proofs.room_for_atom.Reads as room-for-atom-reads
-use Rattle.sensing.proofs.taken_as.Reads as taken-as-reads
-use Rattle.sensing.proofs.withdraw.Reads as withdraw-reads
-use Rattle.state.proofs.append_atom.Reads as append-atom-reads
 
 -- src/lib.rt:135:9
 taken-as-requires : tie.Need-taken-as-requires
@@ -36,7 +30,7 @@ returns c =
 -- src/lib.rt:145:13
 append-atom-requires : tie.Need-append-atom-requires
 append-atom-requires c κs =
-    let r = c .before .before .before .before .before .before .before .before .pre in
+    let r = c .before .before .before .before .before .before .before .before .pre .0 in
     let a = c .before .before .before .before .before .before .before .before .args in
     let h = bar-free (a .scalars .next) (a .scalars .atoms) (sym (c .before .before .room-for-atom .ensures) ∙ c .before .if2 .left) in
     (r .whole .long, h .1, omega (arith, h .0, r .next-fits))
@@ -49,7 +43,7 @@ same-length c = search needs
 returns-2 : tie.Need-returns-2
 returns-2 c =
     let a = c .before .before .before .before .before .before .before .before .before .before .before .args in
-    let r = c .before .before .before .before .before .before .before .before .before .before .before .pre in
+    let r = c .before .before .before .before .before .before .before .before .before .before .before .pre .0 in
     let h = bar-free (a .scalars .next) (a .scalars .atoms) (sym (c .before .before .before .before .before .room-for-atom .ensures) ∙ c .before .before .before .before .if2 .left) in (
       senses-add _ (reading-of (a .reading)) (config-of (a .words .now) (a .scalars)) (c .before .before .before .before .before .before .if1 .taken) 0
           (atoms-of-bar (a .words .now) (a .scalars) ∙ sym (c .before .before .before .before .before .room-for-atom .ensures) ∙ c .before .before .before .before .if2 .left) _

@@ -10,15 +10,10 @@ use Rattle.model.specs.declared.Atom.{Atom}
 use Rattle.model.specs.Deletion.{graph, remove as removed}
 use Rattle.model.specs.Events.{gone-by, deletion}
 use Rattle.model.specs.Configuration.{equal-to}
-use Rattle.sensing.proofs.Withdrawals.{Withdrawing, withdrawing-first, withdrawing-skip, withdrawing-take, withdrawing-end, fewer}
+use Rattle.sensing.proofs.Withdrawals.{Withdrawing, withdrawing-first, withdrawing-on, withdrawing-take, withdrawing-end, fewer}
 use Rattle.deletion.proofs.Sound.{counts-after}
 use Rattle.sensing.proofs.withdraw.Statement.{statement}
 use Rattle.sensing.proofs.withdraw.Tie as tie
-use Rattle.sensing.proofs.withdraw.Reads as reads
-use Rattle.sensing.proofs.withdraw.Lts as lts
-use Rattle.state.proofs.is_equal.Reads as is-equal-reads
-use Rattle.deletion.proofs.remove.Reads as remove-reads
-use Rattle.state.proofs.atom_at.Reads as atom-at-reads
 
 abbrev Inv-loop : tie.InvT-loop
 Inv-loop words₀ p a b s₀ gone₀ k₀ words s gone k = Withdrawing p a b (config-of words₀ s₀) (s₀ .atoms + s₀ .plans) words s gone k × (s₀ .atoms + s₀ .plans ≤ 320) × (length words₀ ≡ 2432)
@@ -92,22 +87,26 @@ loop-again c =
     let b = at-loop c in
     (withdrawing-take (b .before .before .args .p) (b .before .before .args .a) (b .before .before .args .b) (config-of (b .before .before .args .words .now) (b .before .before .args .scalars)) (b .before .before .args .scalars .atoms + b .before .before .args .scalars .plans) (b .loop .words) (b .loop .s) (c .before .before .before .before .remove .last .0) (c .before .before .before .before .remove .result .scalars) (b .loop .gone) (b .loop .k) (c .before .before .before .before .remove .result .gone) (b .loop .inv .0) (there c) (equal c) (whole c) (left c) (counted c), b .loop .inv .1, b .loop .inv .2)
 
--- src/lib.rt:111:13
-add-k : tie.Need-add-k Inv-loop μ-loop
-add-k c = let i = c .before .before .before .before .before .loop .inv .0 in omega (arith, i .ready .whole .few-atoms, i .inside)
+add-pass-unequal : tie.Need-add-pass-unequal Inv-loop μ-loop
+add-pass-unequal c = let i = c .before .before .before .before .before .before .loop .inv .0 in omega (arith, i .ready .whole .few-atoms, i .inside)
 
--- src/lib.rt:103:5
+cast-pass-unequal : tie.Need-cast-pass-unequal Inv-loop μ-loop
+cast-pass-unequal c = search needs
+
+pass-unequal-requires : tie.Need-pass-unequal-requires Inv-loop μ-loop
+pass-unequal-requires c κs = let i = c .before .before .before .before .before .before .before .loop .inv .0 in let h = c .before .before .before .before .before .if1 .taken in (i .ready .whole .long, omega (arith, h), i .ready .whole .few-atoms)
+
 loop-less-2 : tie.Need-loop-less-2 Inv-loop μ-loop
-loop-less-2 c = search needs
+loop-less-2 c = let h = c .before .before .before .before .before .before .if1 .taken in let e = c .pass-unequal .ensures in omega (arith, h, e .0, e .1)
 
--- src/lib.rt:103:5
 loop-again-2 : tie.Need-loop-again-2 Inv-loop μ-loop
 loop-again-2 c =
-    let b = c .before .before .before .before .before in
-    let i = b .loop .inv in
-    (withdrawing-skip _ _ _ _ _ (b .loop .words) (b .loop .s) (b .loop .gone) (b .loop .k) (i .0) (omega arith) (sym (c .before .is-equal .ensures) ∙ c .if2 .left), i .1, i .2)
+    let l = c .before .before .before .before .before .before .before .before .loop in
+    let i = l .inv in
+    let h = c .before .before .before .before .before .before .if1 .taken in
+    let e = c .pass-unequal .ensures in
+    (withdrawing-on _ _ _ _ _ (l .words) (l .s) (l .gone) (l .k) (c .pass-unequal .result) (i .0) (omega (arith, h)) (sym (c .before .before .before .before .is-equal .ensures) ∙ c .before .before .before .if2 .left) (e .0) (e .1) (e .2), i .1, i .2)
 
--- src/lib.rt:96:1
 same-length : tie.Need-same-length Inv-loop μ-loop
 same-length c = let i = c .before .before .loop .inv in i .0 .ready .whole .long ∙ sym (i .2)
 
@@ -129,7 +128,9 @@ withdraw-spec =
     add-gone
     loop-less
     loop-again
-    add-k
+    add-pass-unequal
+    cast-pass-unequal
+    pass-unequal-requires
     loop-less-2
     loop-again-2
     same-length

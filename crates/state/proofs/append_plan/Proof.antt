@@ -1,4 +1,5 @@
--- The words behind 1280 are `placed`, the scalars counted on.
+-- The words behind plans-at are `placed`, the scalars counted on.
+use Rattle.state.specs.View.{plans-at}
 use mathlib.Core.Path.{_≡_, _∙_, ap}
 use Prim.Native.Nat.{_-_}
 use lib.ListN.{length}
@@ -45,7 +46,7 @@ returns c =
     let hv : length (a .values) ≡ 8 = search needs in (
       c .plan-made .ensures,
       rw (c .plan-made .ensures) (plan-appended W (a .scalars) (a .set) (a .rule) (a .left) (a .justifications) (a .values) (c .before .before .before .write .last .0) (s .pre .0) (s .pre .1) (s .pre .2) hj hv
-          (c .before .before .before .write .ensures ∙ ap (placed 18 (part 1280 (length W - 1280) W) (a .scalars .plans)) (c .before .before .before .before .before .before .plan-words .ensures))),
+          (c .before .before .before .write .ensures ∙ ap (placed 18 (part plans-at (length W - plans-at) W) (a .scalars .plans)) (c .before .before .before .before .before .before .plan-words .ensures))),
     )
 
 pub append-plan-spec : {M : Type 1} → statement M

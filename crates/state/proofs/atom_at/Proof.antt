@@ -1,25 +1,65 @@
--- Five numbers of a record.
-use mathlib.Core.Path.{_≡_}
 use borrow.Author.Needs.{needs}
 use Rattle.state.specs.View.{atom-at}
 use Rattle.state.proofs.atom_at.Statement.{statement}
 use Rattle.state.proofs.atom_at.Tie as tie
 
-read-requires : tie.Need-read-requires
-read-requires c κs = search needs
+-- src/lib.rt:180:13
+mul-t3 : tie.Need-mul-t3
+mul-t3 c = search needs
 
-read-requires-2 : tie.Need-read-requires-2
-read-requires-2 c κs = search needs
+-- src/lib.rt:180:13
+shared-slice-read-t5 : tie.Need-shared-slice-read-t5
+shared-slice-read-t5 c = search needs
 
-read-requires-3 : tie.Need-read-requires-3
-read-requires-3 c κs = search needs
+-- src/lib.rt:181:18
+add-t6 : tie.Need-add-t6
+add-t6 c = search needs
 
-read-requires-4 : tie.Need-read-requires-4
-read-requires-4 c κs = search needs
+-- src/lib.rt:181:12
+mul-t7 : tie.Need-mul-t7
+mul-t7 c = search needs
 
-read-requires-5 : tie.Need-read-requires-5
-read-requires-5 c κs = search needs
+-- src/lib.rt:181:12
+shared-slice-read-t9 : tie.Need-shared-slice-read-t9
+shared-slice-read-t9 c = search needs
 
+-- src/lib.rt:182:18
+add-t10 : tie.Need-add-t10
+add-t10 c = search needs
+
+-- src/lib.rt:182:12
+mul-t11 : tie.Need-mul-t11
+mul-t11 c = search needs
+
+-- src/lib.rt:182:12
+shared-slice-read-t13 : tie.Need-shared-slice-read-t13
+shared-slice-read-t13 c = search needs
+
+-- src/lib.rt:183:18
+add-t14 : tie.Need-add-t14
+add-t14 c = search needs
+
+-- src/lib.rt:183:12
+mul-t15 : tie.Need-mul-t15
+mul-t15 c = search needs
+
+-- src/lib.rt:183:12
+shared-slice-read-t17 : tie.Need-shared-slice-read-t17
+shared-slice-read-t17 c = search needs
+
+-- src/lib.rt:184:22
+add-t18 : tie.Need-add-t18
+add-t18 c = search needs
+
+-- src/lib.rt:184:16
+mul-t19 : tie.Need-mul-t19
+mul-t19 c = search needs
+
+-- src/lib.rt:184:16
+shared-slice-read-t21 : tie.Need-shared-slice-read-t21
+shared-slice-read-t21 c = search needs
+
+-- src/lib.rt:175:1
 returns : tie.Need-returns
 unfolding atom-at
 returns c = cc
@@ -28,9 +68,18 @@ pub atom-at-spec : {M : Type 1} → statement M
 atom-at-spec =
     tie.close
     (tie.spec
-    read-requires
-    read-requires-2
-    read-requires-3
-    read-requires-4
-    read-requires-5
+    mul-t3
+    shared-slice-read-t5
+    add-t6
+    mul-t7
+    shared-slice-read-t9
+    add-t10
+    mul-t11
+    shared-slice-read-t13
+    add-t14
+    mul-t15
+    shared-slice-read-t17
+    add-t18
+    mul-t19
+    shared-slice-read-t21
     returns)

@@ -1,4 +1,5 @@
 -- The same in the part that holds the plans.
+use Rattle.state.specs.View.{plans-at}
 use borrow.Author.Needs.{needs}
 use native.Mathlib.Omega.{arith}
 use mathlib.Core.Path.{_≡_, _∙_, ap}
@@ -25,14 +26,14 @@ find-requires : tie.Need-find-requires
 find-requires c κs =
     let s = c .before .before in
     let W = s .args .words .now in
-    let z : length (drop 1280 W) ≡ length W - 1280 = length-drop 1280 W in
-    rw (rest-is 1280 W []) (omega arith, omega arith, plan-keys-rise (s .args .plans) W (s .pre .2))
+    let z : length (drop plans-at W) ≡ length W - plans-at = length-drop plans-at W in
+    rw (rest-is plans-at W []) (omega arith, omega arith, plan-keys-rise (s .args .plans) W (s .pre .2))
 
 returns : tie.Need-returns
 returns c =
     let a = c .before .before .before .args in
     let W = a .words .now in
-    c .find .ensures ∙ ap (λ (l : List ℕ). index-of (a .id) (keys 18 (a .plans) l)) (rest-is 1280 W []) ∙ ap (index-of (a .id)) (plan-keys (a .plans) W)
+    c .find .ensures ∙ ap (λ (l : List ℕ). index-of (a .id) (keys 18 (a .plans) l)) (rest-is plans-at W []) ∙ ap (index-of (a .id)) (plan-keys (a .plans) W)
 
 pub find-plan-spec : {M : Type 1} → statement M
 find-plan-spec = tie.close (tie.spec sub-find part-find-start part-find-end find-requires returns)

@@ -1,4 +1,5 @@
 -- A number of the part that holds the plans.
+use Rattle.state.specs.View.{plans-at}
 use mathlib.Core.Path.{ap, _∙_}
 use mathlib.Core.List.{List, []}
 use Prim.Native.Nat.{ℕ}
@@ -24,7 +25,7 @@ read-requires c κs = search needs
 returns : tie.Need-returns
 returns c =
     let a = c .before .before .before .args in
-    c .read .ensures ∙ ap (λ (l : List ℕ). getD (row 18 l (a .k)) (a .column) 0) (rest-is 1280 (a .words .now) [])
+    c .read .ensures ∙ ap (λ (l : List ℕ). getD (row 18 l (a .k)) (a .column) 0) (rest-is plans-at (a .words .now) [])
 
 pub plan-word-spec : {M : Type 1} → statement M
 plan-word-spec = tie.close (tie.spec sub-read part-read-start part-read-end read-requires returns)

@@ -18,7 +18,7 @@ skip-atoms-requires c κs = search needs
 
 returns-2 : tie.Need-returns-2
 unfolding candidate-at
-returns-2 c = skip-as (c .skip-atoms .ensures) (λ k. rw (c .before .before .if2 .taken))
+returns-2 c = skip-as (c .skip-atoms .ensures _) (λ k. rw (c .before .before .if2 .taken))
 
 cast-skip-plans : tie.Need-cast-skip-plans
 cast-skip-plans c = search needs

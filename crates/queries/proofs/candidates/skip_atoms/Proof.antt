@@ -1,77 +1,76 @@
--- The loop's invariant: no candidate before c fits.
 use borrow.Author.Needs.{needs}
-use borrow.Author.Tests.{ne-eqb}
 use mathlib.Core.Path.{sym, _∙_}
-use Prim.Native.Nat.{_+_, _-_}
-use native.Mathlib.Omega.{arith}
-use Rattle.state.specs.View.{atom-at}
-use Rattle.queries.specs.Answers.{atom-candidate, Skipped}
-use Rattle.queries.proofs.Skips.{missed-absent, missed-unlike, skip-none, skip-to, skip-one}
+use Rattle.queries.proofs.Skips.{skip-none}
+use Rattle.queries.proofs.Eights.{skipped-chain}
 use Rattle.queries.proofs.candidates.skip_atoms.Statement.{statement}
 use Rattle.queries.proofs.candidates.skip_atoms.Tie as tie
 
-abbrev Inv-loop : tie.InvT-loop
-Inv-loop words p i a b from n c₀ c = Skipped (λ k. atom-candidate p (atom-at words k)) i a b from c
+-- src/candidates.rt:317:9
+returns : tie.Need-returns
+returns c = λ i. skip-none _ _ _ _ _
 
-abbrev μ-loop : tie.MeasureT-loop
-μ-loop words p i a b from n c₀ c = n - c
+-- src/candidates.rt:319:9
+column-requires : tie.Need-column-requires
+column-requires c κs = search needs
 
-loop-holds : tie.Need-loop-holds Inv-loop μ-loop
-loop-holds c = skip-none _ _ _ _ _
+-- src/candidates.rt:320:9
+sought-requires : tie.Need-sought-requires
+sought-requires c κs = search needs
 
-are-others-requires : tie.Need-are-others-requires Inv-loop μ-loop
-are-others-requires c κs = let p = c .before .before .before .pre in let h = c .loop-test .taken in (p .0, h, p .1)
+-- src/candidates.rt:321:9
+column-requires-2 : tie.Need-column-requires-2
+column-requires-2 c κs = search needs
 
-add-c : tie.Need-add-c Inv-loop μ-loop
-add-c c = let h = c .before .before .loop-test .taken in omega arith
+-- src/candidates.rt:322:9
+sought-requires-2 : tie.Need-sought-requires-2
+sought-requires-2 c κs = search needs
 
-loop-less : tie.Need-loop-less Inv-loop μ-loop
-loop-less c = let h = c .before .before .loop-test .taken in omega arith
+-- src/candidates.rt:323:8
+stands-requires : tie.Need-stands-requires
+stands-requires c κs = search needs
 
-loop-again : tie.Need-loop-again Inv-loop μ-loop
-loop-again c =
-    let l = c .before .before .before in
-    let others = c .before .are-others .ensures (c .if1 .taken) .1 in
-    skip-to _ _ _ _ _ (l .loop .c) (l .loop .c + 4) (l .loop .inv) (omega arith) (λ k h g. missed-absent _ _ _ _ _ (ne-eqb _ _ (others k h g)))
+-- src/candidates.rt:324:9
+returns-2 : tie.Need-returns-2
+returns-2 c = λ i. skip-none _ _ _ _ _
 
-atom-candidate-requires : tie.Need-atom-candidate-requires Inv-loop μ-loop
-atom-candidate-requires c κs = let t = c .before .before in let p = t .before .before .before .pre in let h = t .loop-test .taken in (p .0, omega arith)
+-- src/candidates.rt:326:47
+add-pass-eights : tie.Need-add-pass-eights
+add-pass-eights c = search needs
 
-is-like-requires : tie.Need-is-like-requires Inv-loop μ-loop
-is-like-requires c κs = search needs
+-- src/candidates.rt:326:9
+pass-eights-requires : tie.Need-pass-eights-requires
+pass-eights-requires c κs = search needs
 
-returns : tie.Need-returns Inv-loop μ-loop
-returns c = c .before .before .before .before .before .before .loop .inv
+-- src/candidates.rt:327:5
+pass-ones-requires : tie.Need-pass-ones-requires
+pass-ones-requires c κs = search needs
 
-add-c-2 : tie.Need-add-c-2 Inv-loop μ-loop
-add-c-2 c = omega arith
-
-loop-less-2 : tie.Need-loop-less-2 Inv-loop μ-loop
-loop-less-2 c = omega arith
-
-loop-again-2 : tie.Need-loop-again-2 Inv-loop μ-loop
-loop-again-2 c =
-    let x = c .before .before in
-    skip-one _ _ _ _ _ _ (x .before .before .before .before .loop .inv) (missed-unlike _ _ _ (x .atom-candidate .result) _ (x .atom-candidate .ensures) (sym (c .before .is-like .ensures) ∙ c .if2 .left))
-
-returns-2 : tie.Need-returns-2 Inv-loop μ-loop
-returns-2 c = c .before .loop .inv
+-- src/candidates.rt:312:1
+returns-3 : tie.Need-returns-3
+returns-3 c =
+    let e = c .before in
+    let f = e .before in
+    let t = f .before in
+    let w = t .before in
+    let z = w .before in
+    let v = z .before in
+    let y = v .before in
+    let a = y .before .before .before .args in
+    λ i. skipped-chain (a .words .now) (a .p) i (a .a) (a .b) (a .from) (e .pass-eights .result) (c .pass-ones .result) (y .column .result) (v .sought .result) (z .column2 .result) (w .sought2 .result) (y .column .ensures .0) (v .sought .ensures) (z .column2 .ensures .0) (w .sought2 .ensures)
+    (sym (t .stands .ensures) ∙ f .if2 .left) (e .pass-eights .ensures .0) (c .pass-ones .ensures .0)
 
 pub skip-atoms-spec : {M : Type 1} → statement M
 skip-atoms-spec =
     tie.close
     (tie.spec
-    Inv-loop
-    μ-loop
-    loop-holds
-    are-others-requires
-    add-c
-    loop-less
-    loop-again
-    atom-candidate-requires
-    is-like-requires
     returns
-    add-c-2
-    loop-less-2
-    loop-again-2
-    returns-2)
+    column-requires
+    sought-requires
+    column-requires-2
+    sought-requires-2
+    stands-requires
+    returns-2
+    add-pass-eights
+    pass-eights-requires
+    pass-ones-requires
+    returns-3)
