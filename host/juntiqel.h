@@ -55,7 +55,7 @@ enum {
     JQ_SCALARS = 6,
     JQ_REPORT = 8,
     JQ_NO_VALUE = 65536,
-    JQ_STEP_STACK = 53248 /* bytes of stack for jq_step and jq_run: what a long search needs, rounded up */
+    JQ_STEP_STACK = 61440 /* bytes of stack for jq_step and jq_run: what a long search needs, rounded up */
 };
 
 /* Places among the scalars. */
