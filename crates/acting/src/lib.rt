@@ -13,7 +13,7 @@ use stepping::{Did, Made, Progress};
 
 // What an action leaves: the scalars, the variables' values, how many instances went, the refusal's number or 0, the last atom
 // made, and whether the actions stop here.
-#[derive(Drop)]
+#[derive(Clone, Copy)]
 pub struct Acted {
     pub scalars: Scalars,
     pub values: [u32; 8],

@@ -8,7 +8,7 @@ ghost use Rattle.causes.specs.Causes.{Exceeds, Lacks, Breaches, LacksValue, plac
 use model::{Row, Scan};
 
 // 5: the limit that is exceeded.
-#[derive(Drop)]
+#[derive(Clone, Copy)]
 pub enum Limit {
     Set(u32),
     Rule(u32),
@@ -18,14 +18,14 @@ pub enum Limit {
 }
 
 // 3: what the rule of the last row lacks: a row of part 1 or 2, or a body.
-#[derive(Drop)]
+#[derive(Clone, Copy)]
 pub enum Lack {
     Condition,
     Body,
 }
 
 // 3: the rule of op, part or order that a row breaks. Columns have their number in the line.
-#[derive(Drop)]
+#[derive(Clone, Copy)]
 pub enum Breach {
     SetOrder { last: u32, set: u32 },
     FirstRule { set: u32, rule: u32 },
@@ -48,14 +48,14 @@ pub enum Breach {
 }
 
 // What a part of the tests says of a row.
-#[derive(Drop)]
+#[derive(Clone, Copy)]
 enum Checked {
     Right,
     Wrong(Breach),
 }
 
 // 4: the variable, 1 to 8, and the column that it stands in.
-#[derive(Drop)]
+#[derive(Clone, Copy)]
 pub struct Unvalued {
     pub column: u32,
     pub variable: u32,

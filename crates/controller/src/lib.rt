@@ -13,7 +13,7 @@ use state::Config;
 use stepping::Did;
 
 // A call's answer: the refusal's number or 0, made and gone.
-#[derive(Drop)]
+#[derive(Clone, Copy)]
 pub struct CallAnswer {
     pub number: u32,
     pub made: u32,
@@ -21,7 +21,7 @@ pub struct CallAnswer {
 }
 
 // A step's answer, with what it did.
-#[derive(Drop)]
+#[derive(Clone, Copy)]
 pub struct StepAnswer {
     pub number: u32,
     pub made: u32,
@@ -30,7 +30,7 @@ pub struct StepAnswer {
 }
 
 // A run's answer: the steps taken, their made and gone summed, and why it stopped.
-#[derive(Drop)]
+#[derive(Clone, Copy)]
 pub struct RunAnswer {
     pub number: u32,
     pub steps: u32,
@@ -40,7 +40,7 @@ pub struct RunAnswer {
 }
 
 // A load's answer: accepted (number 0) with this many rows, or refused with this number and line.
-#[derive(Drop)]
+#[derive(Clone, Copy)]
 pub struct LoadAnswer {
     pub number: u32,
     pub line: u32,

@@ -11,14 +11,14 @@ ghost use Rattle.deletion.specs.Moves.{Moved, AtomsMoved};
 use state::Scalars;
 
 // The scalars afterwards, and how many instances went.
-#[derive(Drop)]
+#[derive(Clone, Copy)]
 pub struct Removal {
     pub scalars: Scalars,
     pub gone: u32,
 }
 
 // Where the last plan that went had its first justification and its subgoal among the atoms: guesses for the next.
-#[derive(Drop)]
+#[derive(Clone, Copy)]
 pub struct Near {
     pub first: usize,
     pub subgoal: usize,

@@ -6,7 +6,7 @@ use Prim.Native.Nat.{ℕ, ◌<◌}
 use native.Mathlib.Omega.{arith}
 use lib.Dec.{eqb}
 use Rattle.lists.specs.Lists.{In, first, later, Pairs, keep, first_of, bind, highest}
-use Rattle.lists.proofs.Lists.{in-nil, in_cons}
+use Rattle.lists.proofs.Lists.{in_nil, in_cons}
 use Rattle.lists.proofs.Tests.{count_up_rises}
 use Rattle.model.specs.declared.Row.{Row}
 use Rattle.model.specs.Program.{rules_of}
@@ -26,7 +26,7 @@ module _ {A B : Type 0} (answers : ℕ → List A) (made : ℕ → A → B) wher
     one : (n : ℕ) (x : A) (rest : List A) → l ≡ made n x ∷ [] → In n ns → answers n ≡ x ∷ rest → ((m : ℕ) → In m ns → m < n → answers m ≡ []) → FirstAnswer ns l
 
   first_answer : (ns : List ℕ) → Pairs (λ (x y : ℕ). x < y) ns → FirstAnswer ns (first_of (bind ns (λ n. map (made n) (answers n))))
-  first_answer [] o = none refl (λ n i. in-nil i)
+  first_answer [] o = none refl (λ n i. in_nil i)
   first_answer (n ∷ ns) o = at (answers n) refl (first_answer ns o.1)
     where
       at : (l : List A) → answers n ≡ l → FirstAnswer ns (first_of (bind ns (λ m. map (made m) (answers m)))) → FirstAnswer (n ∷ ns) (first_of (map (made n) (answers n) ++ bind ns (λ m. map (made m) (answers m))))
@@ -36,7 +36,7 @@ module _ {A B : Type 0} (answers : ℕ → List A) (made : ℕ → A → B) wher
 
 module _ (program : List Row) (c : Config) (s : ℕ) where
   no_match : (n : ℕ) → rule_matches program c s n ≡ [] → ¬ HasMatch program c s n
-  no_match n e h = in-nil (subst (In h.1) e (match_in program c s n h.0 h.1 h.2))
+  no_match n e h = in_nil (subst (In h.1) e (match_in program c s n h.0 h.1 h.2))
 
   has_match : Sound (graph c) → (n : ℕ) (f : Found) (rest : List Found) → rule_matches program c s n ≡ f ∷ rest → HasMatch program c s n
   has_match z n f rest e = let m = in_match program c s n z f (subst (In f) (sym e) (first refl)) in (m.0, f, m.1)

@@ -10,7 +10,7 @@ use lib.Dec.{eqb, leb, ltb}
 use lib.ListN.{length}
 use borrow.Author.Tests.{eqb-true, eqb-false, eq-eqb, leb-true, leb-false, le-leb, ltb-true, ltb-false, not-true, not-false}
 use Rattle.lists.specs.Lists.{In, first, later, if◌then◌else◌, within, every, keep}
-use Rattle.lists.proofs.Lists.{test, clash, in-nil, in_cons, keep_in, member_in, in_member, or_cases, map_map}
+use Rattle.lists.proofs.Lists.{test, clash, in_nil, in_cons, keep_in, member_in, in_member, or_cases, map_map}
 use Rattle.lists.proofs.Tests.{and2, every_all}
 use Rattle.lists.proofs.Cuts.{within_in}
 use Rattle.model.specs.declared.Row.{Row}
@@ -292,7 +292,7 @@ module _ (c : Config) where
 
   not_early : (n : ℕ) → 8 ≤ n → n ≤ 10 → In n (1 ∷ 6 ∷ 7 ∷ 11 ∷ 12 ∷ []) → ⊥
   not_early n h k i =
-      ⊎_elim (λ e. omega arith) (λ i. ⊎_elim (λ e. omega arith) (λ i. ⊎_elim (λ e. omega arith) (λ i. ⊎_elim (λ e. omega arith) (λ i. ⊎_elim (λ e. omega arith) (λ i. in-nil i) (in_cons i)) (in_cons i)) (in_cons i)) (in_cons i)) (in_cons i)
+      ⊎_elim (λ e. omega arith) (λ i. ⊎_elim (λ e. omega arith) (λ i. ⊎_elim (λ e. omega arith) (λ i. ⊎_elim (λ e. omega arith) (λ i. ⊎_elim (λ e. omega arith) (λ i. in_nil i) (in_cons i)) (in_cons i)) (in_cons i)) (in_cons i)) (in_cons i)
 
   gives_number : (k : Call) {n : ℕ} → work k c ≡ refused n → (reply k c).number ≡ n
   unfolding answer_of

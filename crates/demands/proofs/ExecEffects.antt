@@ -10,7 +10,7 @@ use lib.Dec.{eqb}
 use lib.ListN.{length}
 use borrow.Author.Tests.{eqb-true, eqb-false, not-true}
 use Rattle.lists.specs.Lists.{In, first, Pairs, keep}
-use Rattle.lists.proofs.Lists.{in-nil, in_cons, in_keep, keep_in, member_in, member_out, pairs_keep}
+use Rattle.lists.proofs.Lists.{in_nil, in_cons, in_keep, keep_in, member_in, member_out, pairs_keep}
 use Rattle.lists.proofs.Tests.{and2, false_not, map_pairs}
 use Rattle.model.specs.declared.Row.{Row}
 use Rattle.model.specs.Configuration.{Plan, Config, most_atoms, scheduled, stepped, has_flag, operand, remainder, atom_ids, atom_alive}
@@ -124,7 +124,7 @@ module _ (program : List Row) (c : Config) (l : Lawful program) (s : Sound (grap
   plans_rise = map_pairs (λ (p q : Node). p.id < q.id) node c.plans s.plans_rise
 
   none_due : keep is_due c.plans ≡ [] → NoneDue c
-  none_due e q i d = in-nil (subst (In q) e (in_keep is_due i (due_test q d)))
+  none_due e q i d = in_nil (subst (In q) e (in_keep is_due i (due_test q d)))
 
   first_due : (q : Plan) (qs : List Plan) → keep is_due c.plans ≡ q ∷ qs → FirstDue c q
   first_due q qs e =

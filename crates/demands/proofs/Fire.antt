@@ -9,7 +9,7 @@ use lib.Dec.{eqb, leb}
 use lib.ListN.{length, set}
 use borrow.Author.Tests.{eqb-false, leb-false}
 use Rattle.lists.specs.Lists.{In, first, keep, first_of, if◌then◌else◌, within, rising_set}
-use Rattle.lists.proofs.Lists.{in-nil, in_one, in_left, in_right, in_append, in_map, map_in, keep_in}
+use Rattle.lists.proofs.Lists.{in_nil, in_one, in_left, in_right, in_append, in_map, map_in, keep_in}
 use Rattle.lists.proofs.Bind.{append-nil, bind_in}
 use Rattle.lists.proofs.RisingSet.{rising_set_rises, rising_set_few, rising_set_some}
 use Rattle.model.specs.declared.Row.{Row}
@@ -88,7 +88,7 @@ module _ (program : List Row) (c : Config) (l : Lawful program) (s : Sound (grap
   reason_ids =
       let p = solves_split c (reasons program t n) (context program t n) nothing_found ks g match.solves in
       let a = reasons_match c (λ (j : ℕ). In j (graph c).atoms) (reasons program t n) nothing_found p.1.0 p.0
-      (λ r h. let q = l.reason_rows t n r h in ((part_row program t n 1 r h).part, odd r q.0, atom_id r q.0)) (λ j h. in-nil h) p.1.1 in
+      (λ r h. let q = l.reason_rows t n r h in ((part_row program t n 1 r h).part, odd r q.0, atom_id r q.0)) (λ j h. in_nil h) p.1.1 in
       let b : g.matched ≡ p.0.matched = context_matches c (context program t n) p.0 p.2.0 g (λ r h. let q = part_row program t n 2 r h in let d = q.part in omega arith) p.2.1 in
       (ap length b ∙ a.0 ∙ omega arith, λ j h. a.1 j (subst (In j) b h))
     where

@@ -6,7 +6,7 @@ use Prim.Native.Nat.{ℕ, suc, ◌+◌, ◌≤◌}
 use native.Mathlib.Omega.{arith}
 use lib.ListN.{length, length-append}
 use Rattle.lists.specs.Lists.{In, first, later, count_up}
-use Rattle.lists.proofs.Lists.{in-nil}
+use Rattle.lists.proofs.Lists.{in_nil}
 use Rattle.lists.proofs.Tests.{count_up_append}
 use Rattle.model.specs.declared.Row.{Row}
 use Rattle.model.specs.Program.{constant, initial_atoms}
@@ -57,7 +57,7 @@ module _ (program : List Row) (l : Lawful program) where
     phase_fits = omega arith;
     cycle_fits = omega arith;
     next_fits = omega arith;
-    atoms_formed = λ x i. in-nil i;
-    plans_formed = λ q i. in-nil i;
+    atoms_formed = λ x i. in_nil i;
+    plans_formed = λ q i. in_nil i;
     waiting_formed = inl refl;
   })

@@ -9,7 +9,7 @@ use lib.Dec.{leb}
 use lib.ListN.{length, get_or, drop, replicate}
 use borrow.Author.Tests.{eqb-false, ne_eqb, leb-false, le-leb, not-true}
 use Rattle.lists.specs.Lists.{In, first, later, if◌then◌else◌}
-use Rattle.lists.proofs.Lists.{test, in-nil, in_cons, or_cases, or_right}
+use Rattle.lists.proofs.Lists.{test, in_nil, in_cons, or_cases, or_right}
 use Rattle.lists.proofs.Tests.{and2, or_left, false_not}
 use Rattle.model.specs.declared.Row.{Row}
 use Rattle.model.specs.Program.{any?, variable?, constant?, constant, body}
@@ -42,7 +42,7 @@ unfolding no_values
 no_values_fit = record { long = refl; fit = λ n i. all 8 n i }
   where
     all : (k n : ℕ) → In n (replicate k no_value) → n ≤ no_value
-    all zero n i = in-nil i
+    all zero n i = in_nil i
     all (suc k) n i = ⊎_elim (λ e. omega arith) (λ j. all k n j) (in_cons i)
 
 -- a row's variables have values

@@ -8,7 +8,7 @@ use native.Mathlib.Omega.{arith}
 use lib.Dec.{eqb, leb}
 use borrow.Author.Tests.{eqb-true, eqb-false, eq-eqb, leb-true, le-leb}
 use Rattle.lists.specs.Lists.{In, first, later, Pairs, every, keep, within}
-use Rattle.lists.proofs.Lists.{clash, in-nil, in_cons, in_map, map_in, in_keep, keep_in, member_in, in_member, pairs_map, pairs_keep}
+use Rattle.lists.proofs.Lists.{clash, in_nil, in_cons, in_map, map_in, in_keep, keep_in, member_in, in_member, pairs_map, pairs_keep}
 use Rattle.lists.proofs.Tests.{and2, map_pairs}
 use Rattle.model.specs.declared.Row.{Row}
 use Rattle.model.specs.declared.Atom.{Atom}
@@ -74,7 +74,7 @@ module _ (p a b t : ℕ) (ts : List ℕ) (c : Config) (k : Covers p a b (t ∷ t
 module _ (program : List Row) (start : Config) (s : Sound (graph start)) (p a b : ℕ) where
   withdrawn : (ts : List ℕ) (L : Log) → Good program start L → Rising ts → Covers p a b ts L.config → Withdrawn p a b L.config (withdraw ts L).config
   unfolding withdraw withdraw_if
-  withdrawn [] L g o k = none_left (λ x e. in-nil (k.all x e))
+  withdrawn [] L g o k = none_left (λ x e. in_nil (k.all x e))
   withdrawn (t ∷ ts) L g o k = at (atom_alive L.config t) refl (λ M h m. withdrawn ts M h o.1 m)
     where
       at : (v : Bool) → atom_alive L.config t ≡ v → ((M : Log) → Good program start M → Covers p a b ts M.config → Withdrawn p a b M.config (withdraw ts M).config) →
@@ -121,7 +121,7 @@ unfolding taken_as replaced
 is_taken_as program r = at (keep (applies r) program) refl
   where
     at : (ws : List Row) → keep (applies r) program ≡ ws → TakenAs program r (replaced r.p ws)
-    at [] e = as_sensed (λ w h. in-nil (subst (In w) e (applies_to program r w h)))
+    at [] e = as_sensed (λ w h. in_nil (subst (In w) e (applies_to program r w h)))
     at (w ∷ ws) e =
         let i = keep_in (applies r) program (subst (In w) (sym e) (first refl)) in
         let b = applied program r w i.1 in

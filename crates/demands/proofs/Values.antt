@@ -10,7 +10,7 @@ use lib.ListN.{length, get_or, set, length-set, length-append}
 use lib.Seq.{get_or-set_same, get_or-set_other}
 use borrow.Author.Tests.{eqb-true, eqb-false, leb-true}
 use Rattle.lists.specs.Lists.{In, first, later}
-use Rattle.lists.proofs.Lists.{test, clash, in-nil, in_cons, in_one, in_append}
+use Rattle.lists.proofs.Lists.{test, clash, in_nil, in_cons, in_one, in_append}
 use Rattle.model.specs.declared.Row.{Row}
 use Rattle.model.specs.Program.{variable?}
 use Rattle.model.specs.Configuration.{Config, no_value, place, value_of}
@@ -29,7 +29,7 @@ abbrev pub Grows : List ℕ → List ℕ → Type 0
 Grows v w = (y : ℕ) → Valued v y → Valued w y
 
 pub set_in : (v : List ℕ) (p n m : ℕ) → In m (set v p n) → (m ≡ n) ⊎ In m v
-set_in [] p n m h = in-nil h
+set_in [] p n m h = in_nil h
 set_in (x ∷ v) zero n m h = ⊎_elim (λ e. inl e) (λ i. inr (later i)) (in_cons h)
 set_in (x ∷ v) (suc p) n m h = ⊎_elim (λ e. inr (first e)) (λ i. ⊎_elim (λ e. inl e) (λ j. inr (later j)) (set_in v p n m i)) (in_cons h)
 
@@ -115,7 +115,7 @@ module _ (c : Config) where
     pub valued : (x : ℕ) → variable? x ≡ true → (r : Row) → In r rs → negation r ≡ false → Names r x → Valued g.values x
 
   pub solves_values : (rs : List Row) (f : Found) (ks : List Candidate) (g : Found) → ((r : Row) → In r rs → (k : Candidate) → In k (candidates c r) → Bounded k) → Values f.values → Solves c rs f ks g → Solved rs f g
-  solves_values [] f ks g b v s = record { values = subst (λ (h : Found). Values h.values) (sym s.1) v; grows = subst (λ (h : Found). Grows f.values h.values) (sym s.1) (λ y h. h); valued = λ x o r i. in-nil i }
+  solves_values [] f ks g b v s = record { values = subst (λ (h : Found). Values h.values) (sym s.1) v; grows = subst (λ (h : Found). Grows f.values h.values) (sym s.1) (λ y h. h); valued = λ x o r i. in_nil i }
   solves_values (r ∷ rs) f ks g b v (inl (e, n, s)) =
       let h = solves_values rs f ks g (λ q i. b q (later i)) v s in
       record { values = h.values; grows = h.grows; valued = λ x o q i m w. ⊎_elim (λ z. clash e (subst (λ (u : Row). negation u ≡ false) z m)) (λ z. h.valued x o q z m w) (in_cons i) }

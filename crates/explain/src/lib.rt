@@ -13,7 +13,7 @@ use rows::{RuleScan, Verdict};
 use text::{Cursor, Line, Read};
 
 // 2: what is not as laid out. Columns have their number; a word stands from one place of the line to another.
-#[derive(Drop)]
+#[derive(Clone, Copy)]
 pub enum Layout {
     Names,
     Unended,
@@ -24,7 +24,7 @@ pub enum Layout {
 }
 
 // The cause of a refusal: of 2 Layout, of 5 Limit, of 3 Lack or Breach, of 4 Unvalued.
-#[derive(Drop)]
+#[derive(Clone, Copy)]
 pub enum Cause {
     Loads,
     Layout(Layout),
@@ -35,7 +35,7 @@ pub enum Cause {
 }
 
 // A cause, the refusal's line by its number, and the line of the text at which the load ends.
-#[derive(Drop)]
+#[derive(Clone, Copy)]
 pub struct Explained {
     pub cause: Cause,
     pub line: u32,

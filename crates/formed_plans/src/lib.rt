@@ -15,7 +15,7 @@ use spans::Span;
 use state::Scalars;
 
 // Where the atoms of a plan's links are looked for first: any numbers will do, and those of the plan before it are near most often.
-#[derive(Drop)]
+#[derive(Clone, Copy)]
 pub struct Near {
     pub place: usize,
     pub first: usize,
@@ -199,7 +199,7 @@ fn subgoal_first(
 
 // Where a rule's reasons and body stand, and the highest that each value of its plans may be: that of no value, or of a value
 // where the body has the variable.
-#[derive(Drop)]
+#[derive(Clone, Copy)]
 pub struct Clauses {
     pub set: u32,
     pub rule: u32,

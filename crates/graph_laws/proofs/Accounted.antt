@@ -5,7 +5,7 @@ use mathlib.Core.List.{List, [], ◌∷◌}
 use Prim.Native.Nat.{ℕ, suc, ◌<◌}
 use native.Mathlib.Omega.{arith}
 use Rattle.lists.specs.Lists.{In, count_up}
-use Rattle.lists.proofs.Lists.{in-nil, pairs_append}
+use Rattle.lists.proofs.Lists.{in_nil, pairs_append}
 use Rattle.lists.proofs.Tests.{count_up_in, count_up_rises, count_up_append, length_count_up}
 use Rattle.model.specs.Graph.{Graph, Sound, Alive, initial_graph}
 use Rattle.model.specs.Events.{Event, changes, AllFit, all_made, all_gone}
@@ -54,7 +54,7 @@ accounted_for i es ok = record {
 
     only : (x : ℕ) → Alive (initial_graph i) x → In x (count_up 1 i)
     only x (inl h) = h
-    only x (inr h) = in-nil h
+    only x (inr h) = in_nil h
 
 -- for every list of calls
 module _ (each : (k : Call) (c : Config) → Sound (graph c) → After (Faithful c) (work k c)) where

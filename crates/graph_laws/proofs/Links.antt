@@ -5,7 +5,7 @@ use mathlib.Core.List.{List, [], ◌∷◌}
 use Prim.Native.Nat.{ℕ, zero, suc, ◌≤◌, ◌<◌}
 use native.Mathlib.Omega.{arith}
 use Rattle.lists.specs.Lists.{In, first, later, Pairs}
-use Rattle.lists.proofs.Lists.{in-nil, in_one, in_cast, in_left, in_right, in_append, in_map, map_in, pairs_append, pairs_map, pairs_all}
+use Rattle.lists.proofs.Lists.{in_nil, in_one, in_cast, in_left, in_right, in_append, in_map, map_in, pairs_append, pairs_map, pairs_all}
 use Rattle.model.specs.Graph.{Link, Node, Graph, justification_links, subgoal_link, links_of, links, Reach, reached, Sound, Alive}
 use Rattle.graph_laws.proofs.Sweep.{Before, Ordered, swept}
 
@@ -23,7 +23,7 @@ link_path : (l m : Link) → l.from ≡ m.from → l.to ≡ m.to → l ≡ m
 link_path l m p q = λ i. record { from = p i; to = q i }
 
 subgoal_link_in : (k s : ℕ) (l : Link) → In l (subgoal_link k s) → (l.from ≡ k) × (l.to ≡ s) × (s ≢ 0)
-subgoal_link_in k zero l h = in-nil h
+subgoal_link_in k zero l h = in_nil h
 subgoal_link_in k (suc s) l h = let e = in_one h in (link_from e, link_to e, omega arith)
 
 in_subgoal_link : (k s : ℕ) (l : Link) → l.from ≡ k → l.to ≡ s → s ≢ 0 → In l (subgoal_link k s)
@@ -43,7 +43,7 @@ in_of q l (inl u) =
 in_of q l (inr d) = in_right (justification_links q.id q.justifications) (in_subgoal_link q.id q.subgoal l d.0 d.1 d.2)
 
 pub owner_of : (qs : List Node) (l : Link) → In l (links qs) → (q : Node) × In q qs × Of q l
-owner_of [] l h = in-nil h
+owner_of [] l h = in_nil h
 owner_of (q ∷ qs) l h = ⊎_elim
     (λ k. (q, first refl, of_in q l k))
     (λ k. let r = owner_of qs l k in (r.0, later r.1, r.2))
@@ -75,7 +75,7 @@ links_rise qs r l h = let s = owner_of qs l h in link_rises qs r s.0 s.1 l s.2
 
 subgoal_link_before : (k s : ℕ) → Pairs Before (subgoal_link k s)
 subgoal_link_before k zero = tt
-subgoal_link_before k (suc s) = (λ l h. in-nil h, tt)
+subgoal_link_before k (suc s) = (λ l h. in_nil h, tt)
 
 of_before : (q : Node) → ((j : ℕ) → In j q.justifications → j < q.id) → (q.subgoal ≢ 0 → q.id < q.subgoal) → Pairs Before (links_of q)
 of_before q f g =

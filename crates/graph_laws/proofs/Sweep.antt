@@ -4,7 +4,7 @@ use mathlib.Core.Logic.{◌⊎◌, inl, inr, ⊎_elim, ◌↔◌, ◌≢◌}
 use mathlib.Core.List.{List, [], ◌∷◌}
 use Prim.Native.Nat.{ℕ}
 use Rattle.lists.specs.Lists.{In, first, later, put, Pairs, member}
-use Rattle.lists.proofs.Lists.{in-nil, in_cons, in_one, in_cast, member_in, in_member, put_old, put_new, put_cases}
+use Rattle.lists.proofs.Lists.{in_nil, in_cons, in_one, in_cast, member_in, in_member, put_old, put_new, put_cases}
 use Rattle.model.specs.Graph.{Link, Reach, here, onward, sweep, reached}
 
 -- no link stands before one that leads to its start, and none leads to its own start
@@ -55,7 +55,7 @@ new_reached (l ∷ L) D x h = from (new_reached L (put (member l.from D) l.to D)
 
 -- what is in has the ends of its links in
 closed : (L : List Link) → Ordered L → (D : List ℕ) (m : Link) → In m L → In m.from (sweep L D) → In m.to (sweep L D)
-closed [] o D m i h = in-nil i
+closed [] o D m i h = in_nil i
 closed (l ∷ L) o D m i h = ⊎_elim this (λ k. closed L rest D' m k h) (in_cons i)
   where
     D' : List ℕ

@@ -15,7 +15,7 @@ use state::Scalars;
 use stepping::Did;
 
 // What a call leaves beside the words: the scalars, the refusal's number or 0, made and gone.
-#[derive(Drop)]
+#[derive(Clone, Copy)]
 pub struct Change {
     pub scalars: Scalars,
     pub number: u32,
@@ -24,7 +24,7 @@ pub struct Change {
 }
 
 // A step's, with what it did.
-#[derive(Drop)]
+#[derive(Clone, Copy)]
 pub struct StepChange {
     pub scalars: Scalars,
     pub number: u32,
@@ -34,7 +34,7 @@ pub struct StepChange {
 }
 
 // A run's: "the steps taken, their made and gone summed, and which, with the refusal's number". A refused run took none.
-#[derive(Drop)]
+#[derive(Clone, Copy)]
 pub struct RunChange {
     pub scalars: Scalars,
     pub number: u32,

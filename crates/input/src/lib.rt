@@ -2,7 +2,7 @@
 ghost use Rattle.std.specs.Prelude.{◌≡◌, ◌+◌, ◌-◌, ◌≤◌, length};
 
 // What stands where a line was looked for.
-#[derive(Drop)]
+#[derive(Clone, Copy)]
 pub enum Kind {
     Line,
     End,
@@ -11,7 +11,7 @@ pub enum Kind {
 }
 
 // A line from `from` to `end` of the buffer. The input goes on at `behind`, and the buffer holds it up to `to`.
-#[derive(Drop)]
+#[derive(Clone, Copy)]
 pub struct Next {
     pub from: usize,
     pub end: usize,

@@ -14,7 +14,7 @@ use state::Config;
 use stepping::Did;
 
 // A call's answer: the refusal's number or 0, "the next configuration, made and gone".
-#[derive(Drop)]
+#[derive(Clone, Copy)]
 pub struct Reply {
     pub config: Config,
     pub number: u32,
@@ -23,7 +23,7 @@ pub struct Reply {
 }
 
 // A step's answer, with what it did.
-#[derive(Drop)]
+#[derive(Clone, Copy)]
 pub struct StepReply {
     pub config: Config,
     pub number: u32,
@@ -33,7 +33,7 @@ pub struct StepReply {
 }
 
 // A run's answer: "the steps taken, their made and gone summed, and which, with the refusal's number". A refused run took none.
-#[derive(Drop)]
+#[derive(Clone, Copy)]
 pub struct RunReply {
     pub config: Config,
     pub number: u32,
@@ -133,7 +133,7 @@ pub fn run(program: &[u32], config: Config, limit: u32) -> RunReply
 }
 
 // What a list of calls came to: the refusal and line of its load, or 0 and how many calls were worked; "made" and "gone" of them all.
-#[derive(Drop)]
+#[derive(Clone, Copy)]
 pub struct Played {
     pub config: Config,
     pub number: u32,

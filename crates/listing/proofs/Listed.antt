@@ -7,7 +7,7 @@ use Prim.Native.Nat.{ℕ, zero, suc, ◌+◌, ◌*◌, ◌<◌, ◌≤◌}
 use native.Mathlib.Omega.{arith}
 use lib.ListN.{length, drop}
 use Rattle.lists.specs.Lists.{In, Pairs}
-use Rattle.lists.proofs.Lists.{all_map, in-nil, in_cons}
+use Rattle.lists.proofs.Lists.{all_map, in_nil, in_cons}
 use Rattle.lists.proofs.Tables.{tabulate_from, tabulate_end}
 use Rattle.model.specs.Text.{bytes}
 use Rattle.model.specs.Configuration.{Plan, Config}
@@ -112,7 +112,7 @@ module _ (words : List ℕ) (s : Scalars) where
           let b = w.some_plans in
           rw (atoms_from i a.0) (low_first (atom_line (atom_at words i)) (plan_lines j) (atom_lines (i + 1))
           (⊎_elim
-          (λ (h : s.plans ≤ j). rw (plans_end j (omega arith)) (λ l m. in-nil m))
+          (λ (h : s.plans ≤ j). rw (plans_end j (omega arith)) (λ l m. in_nil m))
           (λ (h : j < s.plans). λ l m. let x = a.1 h in let y = plans_from_above h l m in omega arith)
           (le_or_lt s.plans j)))
 

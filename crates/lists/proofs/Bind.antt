@@ -4,7 +4,7 @@ use mathlib.Core.Bool.{Bool, true, false}
 use mathlib.Core.Logic.{⊎_elim}
 use mathlib.Core.List.{List, [], ◌∷◌, ◌++◌, map}
 use Rattle.lists.specs.Lists.{In, first, later, put, keep, Pairs, bind}
-use Rattle.lists.proofs.Lists.{in-nil, in_left, in_right, in_append, pairs_append}
+use Rattle.lists.proofs.Lists.{in_nil, in_left, in_right, in_append, pairs_append}
 
 module _ {A : Type 0} where
   pub append-nil : (l : List A) → l ++ [] ≡ l
@@ -25,10 +25,10 @@ module _ {A : Type 0} where
 
 module _ {A B : Type 0} where
   pub bind_in : (f : A → List B) (l : List A) {y : B} → In y (bind l f) → (x : A) × In x l × In y (f x)
-  bind_in f [] h = in-nil h
+  bind_in f [] h = in_nil h
   bind_in f (x ∷ l) h = ⊎_elim (λ i. (x, first refl, i)) (λ i. let r = bind_in f l i in (r.0, later r.1, r.2)) (in_append (f x) (bind l f) h)
 
-  pub in_bind : (f : A → List B) {l : List A} {x : A} {y : B} → In x l → In y (f x) → In y (bind l f)
+  pub in_bind : (f : A → List B) {x : A} {y : B} {l : List A} → In x l → In y (f x) → In y (bind l f)
   in_bind f {y = y} (first {y = z} {l = l} e) h = in_left (bind l f) (subst (λ (w : A). In y (f w)) e h)
   in_bind f (later {y = z} i) h = in_right (f z) (in_bind f i h)
 

@@ -10,7 +10,7 @@ use lib.ListN.{length, get_or, drop, length-map, get_or-map}
 use borrow.Author.Tests.{eqb-true, eq-eqb, leb-true, le-leb, le-ltb}
 use Rattle.lists.specs.Lists.{if◌then◌else◌, In, first, later, first_of, Pairs, every, some, in_pairs, rises, count_up, highest}
 use Rattle.lists.specs.Tables.{tabulate, index_of, trim_cons, trimmed}
-use Rattle.lists.proofs.Lists.{test, clash, in-nil, in_one, in_cast, in_map, in_member, all_snoc, pairs_snoc}
+use Rattle.lists.proofs.Lists.{test, clash, in_nil, in_one, in_cast, in_map, in_member, all_snoc, pairs_snoc}
 use Rattle.lists.proofs.Tests.{and2, every_all, tests_pairs, rises_pairs, pairs_rises, length_count_up}
 use Rattle.lists.proofs.Cuts.{if_either}
 use Rattle.lists.proofs.Some.{some_in, in_some}
@@ -154,7 +154,7 @@ before f (suc k) = f k
 
 module _ (f : ℕ → ℕ) where
   risen : (n : ℕ) → ((k : ℕ) → k < n → before f k < f k) → Pairs (λ (x y : ℕ). x < y) (0 ∷ tabulate n f) × ((x : ℕ) → In x (0 ∷ tabulate n f) → x ≤ before f n)
-  risen zero h = ((λ y i. in-nil i, tt), λ x i. let e = in_one i in omega arith)
+  risen zero h = ((λ y i. in_nil i, tt), λ x i. let e = in_one i in omega arith)
   risen (suc n) h =
       let r = risen n (λ k p. h k (omega arith)) in
       let b = h n (omega arith) in (

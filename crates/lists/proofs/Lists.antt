@@ -19,15 +19,15 @@ pub clash {ℓ} : {C : Type ℓ} {b : Bool} → b ≡ true → b ≡ false → C
 clash p q = absurd (true≢false (sym p ∙ q))
 
 module _ {A : Type 0} where
-  pub in-nil {ℓ} : {C : Type ℓ} {x : A} → In x [] → C
-  in-nil h = elim h [ ]
+  pub in_nil {ℓ} : {C : Type ℓ} {x : A} → In x [] → C
+  in_nil h = elim h [ ]
 
   pub in_cons : {x y : A} {l : List A} → In x (y ∷ l) → (x ≡ y) ⊎ In x l
   in_cons (first e) = inl e
   in_cons (later h) = inr h
 
   pub in_one : {x y : A} → In x (y ∷ []) → x ≡ y
-  in_one h = ⊎_elim (λ e. e) (λ k. in-nil k) (in_cons h)
+  in_one h = ⊎_elim (λ e. e) (λ k. in_nil k) (in_cons h)
 
   pub in_cast : {x y : A} {l : List A} → x ≡ y → In y l → In x l
   in_cast e (first q) = first (e ∙ q)
@@ -66,10 +66,10 @@ module _ {A : Type 0} where
   put_new false y l p e = absurd (false≢true p)
 
   pub keep_in : (f : A → Bool) (l : List A) {x : A} → In x (keep f l) → In x l × (f x ≡ true)
-  keep_in f [] h = in-nil h
+  keep_in f [] h = in_nil h
   keep_in f (y ∷ l) {x} h = ⊎_elim (λ k. (first k.1, ap f k.1 ∙ k.0)) (λ k. let r = keep_in f l k in (later r.0, r.1)) (put_cases (f y) x y (keep f l) h)
 
-  pub in_keep : (f : A → Bool) {l : List A} {x : A} → In x l → f x ≡ true → In x (keep f l)
+  pub in_keep : (f : A → Bool) {x : A} {l : List A} → In x l → f x ≡ true → In x (keep f l)
   in_keep f (first {y = y} {l = l} e) p = put_new (f y) y (keep f l) (ap f (sym e) ∙ p) e
   in_keep f (later {y = y} h) p = put_old (f y) y (in_keep f h p)
 
@@ -98,10 +98,10 @@ module _ {A : Type 0} where
   pairs_append R (x ∷ l) m h k c = (all_append (R x) l m h.0 (c x (first refl)), pairs_append R l m h.1 k (λ y i. c y (later i)))
 
   pub pairs_snoc : (R : A → A → Type 0) (l : List A) (y : A) → Pairs R l → ((x : A) → In x l → R x y) → Pairs R (l ++ (y ∷ []))
-  pairs_snoc R l y h c = pairs_append R l (y ∷ []) h (λ z i. in-nil i, tt) (λ x i z j. subst (R x) (sym (in_one j)) (c x i))
+  pairs_snoc R l y h c = pairs_append R l (y ∷ []) h (λ z i. in_nil i, tt) (λ x i z j. subst (R x) (sym (in_one j)) (c x i))
 
   -- of two elements one stands before the other, or they are one
-  pub pairs_either : (R : A → A → Type 0) {l : List A} {x y : A} → Pairs R l → In x l → In y l → (x ≡ y) ⊎ (R x y ⊎ R y x)
+  pub pairs_either : (R : A → A → Type 0) {x y : A} {l : List A} → Pairs R l → In x l → In y l → (x ≡ y) ⊎ (R x y ⊎ R y x)
   pairs_either R {x = x} {y = y} h (first {y = z} e) k = ⊎_elim (λ q. inl (e ∙ sym q)) (λ q. inr (inl (subst (λ (w : A). R w y) (sym e) (h.0 y q)))) (in_cons k)
   pairs_either R {x = x} {y = y} h (later {y = z} i) k = ⊎_elim (λ q. inr (inr (subst (λ (w : A). R w x) (sym q) (h.0 x i)))) (λ q. pairs_either R h.1 i q) (in_cons k)
 
@@ -115,12 +115,12 @@ module _ {A : Type 0} where
       at false r = omega arith
 
 module _ {A B : Type 0} where
-  pub in_map : (f : A → B) {l : List A} {x : A} → In x l → In (f x) (map f l)
+  pub in_map : (f : A → B) {x : A} {l : List A} → In x l → In (f x) (map f l)
   in_map f (first e) = first (ap f e)
   in_map f (later h) = later (in_map f h)
 
   pub map_in : (f : A → B) (l : List A) {y : B} → In y (map f l) → (x : A) × In x l × (y ≡ f x)
-  map_in f [] h = in-nil h
+  map_in f [] h = in_nil h
   map_in f (x ∷ l) h = ⊎_elim (λ e. (x, first refl, e)) (λ k. let r = map_in f l k in (r.0, later r.1, r.2)) (in_cons h)
 
   pub all_map : (P : B → Type 0) (f : A → B) (l : List A) → ((x : A) → In x l → P (f x)) → (y : B) → In y (map f l) → P y

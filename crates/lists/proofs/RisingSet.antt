@@ -9,7 +9,7 @@ use lib.Dec.{ltb, eqb}
 use lib.ListN.{length}
 use borrow.Author.Tests.{ltb-true, ltb-false, eqb-true, eqb-false}
 use Rattle.lists.specs.Lists.{In, first, later, Pairs, if◌then◌else◌, insert, rising_set}
-use Rattle.lists.proofs.Lists.{in-nil, in_cons, in_one}
+use Rattle.lists.proofs.Lists.{in_nil, in_cons, in_one}
 
 abbrev Rising : List ℕ → Type 0
 Rising l = Pairs (λ (x y : ℕ). x < y) l
@@ -32,7 +32,7 @@ insert_in n (x ∷ l) y g = cases (λ (k : List ℕ). In y k → (y ≡ n) ⊎ I
 
 in_insert : (n : ℕ) (l : List ℕ) (y : ℕ) → (y ≡ n) ⊎ In y l → In y (insert n l)
 unfolding insert
-in_insert n [] y h = ⊎_elim (λ e. first e) (λ i. in-nil i) h
+in_insert n [] y h = ⊎_elim (λ e. first e) (λ i. in_nil i) h
 in_insert n (x ∷ l) y h = cases (In y) n x l (insert n l)
     (λ b. ⊎_elim (λ e. first e) (λ i. later i) h)
     (λ b. ⊎_elim (λ e. first (e ∙ b)) (λ i. i) h)
@@ -40,7 +40,7 @@ in_insert n (x ∷ l) y h = cases (In y) n x l (insert n l)
 
 insert_rises : (n : ℕ) (l : List ℕ) → Rising l → Rising (insert n l)
 unfolding insert
-insert_rises n [] r = (λ y i. in-nil i, tt)
+insert_rises n [] r = (λ y i. in_nil i, tt)
 insert_rises n (x ∷ l) r = cases Rising n x l (insert n l)
     (λ b. (λ y i. ⊎_elim (λ e. omega arith) (λ j. let h = r.0 y j in omega arith) (in_cons i), r))
     (λ b. r)

@@ -11,7 +11,7 @@ use lib.Seq.{drop-cons}
 use borrow.Author.Tests.{ltb-true, ltb-false, leb-true, leb-false, eqb-true, eqb-false}
 use Rattle.lists.specs.Lists.{if◌then◌else◌, In, first, later, put, keep, when, first_of, is_empty, bind, count_up, highest}
 use Rattle.lists.specs.Tables.{tabulate, trim_cons, trimmed}
-use Rattle.lists.proofs.Lists.{test, clash, in-nil, in_cons, map_append}
+use Rattle.lists.proofs.Lists.{test, clash, in_nil, in_cons, map_append}
 use Rattle.lists.proofs.Bind.{append-nil, append_assoc, keep_append, bind_append}
 
 -- binds of binds
@@ -172,7 +172,7 @@ module _ {A : Type 0} where
 -- the greatest number
 pub highest_over : (l : List ℕ) (x : ℕ) → In x l → x ≤ highest l
 unfolding highest
-highest_over [] x i = in-nil i
+highest_over [] x i = in_nil i
 highest_over (y ∷ l) x i = at (leb y (highest l)) refl (highest_over l x)
   where
     at : (b : Bool) → leb y (highest l) ≡ b → (In x l → x ≤ highest l) → x ≤ (if b then highest l else y)

@@ -38,7 +38,7 @@ module _ {A : Type 0} where
   get_within (x ∷ l) zero d e h = refl
   get_within (x ∷ l) (suc j) d e h = get_within l j d e (omega arith)
 
-  pub in_get : {l : List A} {x : A} (d : A) → In x l → (k : ℕ) × (k < length l) × (get_or l k d ≡ x)
+  pub in_get : {x : A} {l : List A} (d : A) → In x l → (k : ℕ) × (k < length l) × (get_or l k d ≡ x)
   in_get d (first e) = (0, omega arith, sym e)
   in_get d (later h) = let r = in_get d h in let p = r.1 in (suc r.0, omega arith, r.2)
 

@@ -9,7 +9,7 @@ use lib.Dec.{ltb, eqb}
 use lib.ListN.{length}
 use borrow.Author.Tests.{ltb-true, lt-ltb, eqb-true, eq-eqb}
 use Rattle.lists.specs.Lists.{In, first, later, Pairs, every, in_pairs, rises, count_up, same}
-use Rattle.lists.proofs.Lists.{clash, in-nil, in_cons, in_map}
+use Rattle.lists.proofs.Lists.{clash, in_nil, in_cons, in_map}
 
 -- tests joined
 pub and2 : {a b : Bool} → a ≡ true → b ≡ true → (a && b) ≡ true
@@ -26,7 +26,7 @@ false_not b e = rw e
 module _ {A : Type 0} where
   pub every_all : (f : A → Bool) (l : List A) → every f l ≡ true → (x : A) → In x l → f x ≡ true
   unfolding every
-  every_all f [] e x h = in-nil h
+  every_all f [] e x h = in_nil h
   every_all f (y ∷ l) e x h =
       let r = (and-eq-true_iff (f y) (every f l)).0 e in
       ⊎_elim (λ q. ap f q ∙ r.0) (λ i. every_all f l r.1 x i) (in_cons h)
@@ -56,7 +56,7 @@ module _ {A : Type 0} where
 pub rises_pairs : (l : List ℕ) → rises l ≡ true → Pairs (λ (x y : ℕ). x < y) l
 unfolding rises
 rises_pairs [] e = tt
-rises_pairs (x ∷ []) e = (λ y h. in-nil h, tt)
+rises_pairs (x ∷ []) e = (λ y h. in_nil h, tt)
 rises_pairs (x ∷ y ∷ l) e =
     let r = (and-eq-true_iff (ltb x y) (rises (y ∷ l))).0 e in
     let below : x < y = ltb-true x y r.0 in
@@ -76,7 +76,7 @@ map_pairs R f (x ∷ l) h = (λ y i. h.0 (f y) (in_map f i), map_pairs R f l h.1
 
 -- numbers in turn
 pub count_up_in : (k n x : ℕ) → In x (count_up k n) → (k ≤ x) × (x < k + n)
-count_up_in k zero x i = in-nil i
+count_up_in k zero x i = in_nil i
 count_up_in k (suc n) x i = ⊎_elim (λ e. omega arith) (λ h. let r = count_up_in (suc k) n x h in omega arith) (in_cons i)
 
 pub count_up_rises : (k n : ℕ) → Pairs (λ (x y : ℕ). x < y) (count_up k n)

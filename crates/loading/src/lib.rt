@@ -50,7 +50,7 @@ fn start(program: &[u32; 4096], rows: usize) -> Config
 }
 
 // The configuration; accepted (number 0) with this many rows, or refused with this number and line.
-#[derive(Drop)]
+#[derive(Clone, Copy)]
 pub struct Started {
     pub config: Config,
     pub number: u32,

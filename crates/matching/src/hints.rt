@@ -26,7 +26,7 @@ const PURSE: u32 = 250;
 const ROOM: u32 = 20;
 
 // Later rows of a hint, and how many bits they take; and the sets of the rows that are in no list yet.
-#[derive(Drop)]
+#[derive(Clone, Copy)]
 struct Later {
     list: u32,
     taken: u32,

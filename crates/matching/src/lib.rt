@@ -24,7 +24,7 @@ const FUEL: u32 = 100;
 
 // A rule: its set and number, where its body begins, which is where its reasons and context end, where its body ends, and
 // whether it is an object rule.
-#[derive(Drop)]
+#[derive(Clone, Copy)]
 pub struct Rule {
     pub set: u32,
     pub number: u32,
@@ -34,14 +34,14 @@ pub struct Rule {
 }
 
 // Four ids at most, with zeros behind.
-#[derive(Drop)]
+#[derive(Clone, Copy)]
 pub struct Ids {
     pub ids: [u32; 4],
     pub count: usize,
 }
 
 // The rule that fires, and what its match found.
-#[derive(Drop)]
+#[derive(Clone, Copy)]
 pub struct Choice {
     pub bindings: Bindings,
     pub rule: Rule,

@@ -4,7 +4,7 @@ ghost use Rattle.model.specs.Program.{constant as constant_of};
 ghost use Rattle.model.specs.Tables.{KeysHold, CasesHold};
 
 // A row of a program text. Columns i, a and b hold operands, each 9 higher than written, so that no number is negative.
-#[derive(Drop)]
+#[derive(Clone, Copy)]
 pub struct Row {
     pub set: u32,
     pub rule: u32,
@@ -17,7 +17,7 @@ pub struct Row {
 }
 
 // An atom instance.
-#[derive(Drop)]
+#[derive(Clone, Copy)]
 pub struct Atom {
     pub id: u32,
     pub p: u32,
@@ -29,7 +29,7 @@ pub struct Atom {
 // Where a load stands after the rows so far: how many rows and initial atoms; set, rule and part of the last row; that
 // rule's rows by part; whether its set is of object rules; a 1 at each variable of the rule that has a value (by operand)
 // and at each predicate that has a ceiling.
-#[derive(Drop)]
+#[derive(Clone, Copy)]
 pub struct Scan {
     pub count: u32,
     pub atoms: u32,

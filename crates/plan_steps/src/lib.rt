@@ -55,7 +55,7 @@ fn remainder_at(span: Span, left: u32) -> usize
 }
 
 // The first row of a remainder; any row where none is found.
-#[derive(Drop)]
+#[derive(Clone, Copy)]
 pub struct Next {
     pub row: Row,
     pub found: bool,

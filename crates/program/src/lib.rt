@@ -91,7 +91,7 @@ pub fn well_formed(program: &[u32]) -> bool
 }
 
 // Accepted (number 0) with this many rows, or refused with this number and line.
-#[derive(Drop)]
+#[derive(Clone, Copy)]
 pub struct Loaded {
     pub number: u32,
     pub line: u32,

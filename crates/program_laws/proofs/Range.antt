@@ -6,7 +6,7 @@ use mathlib.Core.Bool.{true}
 use mathlib.Core.List.{List, [], ◌∷◌}
 use borrow.Author.Tests.{le-leb, leb-true}
 use Rattle.lists.specs.Lists.{In, every}
-use Rattle.lists.proofs.Lists.{in-nil, in_cons}
+use Rattle.lists.proofs.Lists.{in_nil, in_cons}
 use Rattle.model.specs.declared.Row.{Row}
 use Rattle.model.specs.Render.{in_range}
 use Rattle.program_laws.proofs.Tests.{and_left, and_right, parts}
@@ -55,5 +55,5 @@ of_all_in_range [] h = refl
 of_all_in_range (r ∷ rs) h = rw (of_in_range r h.0) (of_all_in_range rs h.1)
 
 pub range_in : (rows : List Row) → AllInRange rows → (r : Row) → In r rows → InRange r
-range_in [] h r i = in-nil i
+range_in [] h r i = in_nil i
 range_in (q ∷ rs) h r i = ⊎_elim (λ e. subst InRange (sym e) h.0) (range_in rs h.1 r) (in_cons i)

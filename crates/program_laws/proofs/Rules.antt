@@ -7,7 +7,7 @@ use Prim.Native.Nat.{ℕ, ◌+◌, ◌≤◌}
 use native.Mathlib.Omega.{arith}
 use lib.ListN.{length, length-append}
 use Rattle.lists.specs.Lists.{In, when, is_empty}
-use Rattle.lists.proofs.Lists.{in-nil, in_left, in_right, in_append, all_snoc}
+use Rattle.lists.proofs.Lists.{in_nil, in_left, in_right, in_append, all_snoc}
 use Rattle.lists.proofs.Splits.{snoc_split}
 use Rattle.model.specs.declared.Row.{Row}
 use Rattle.model.specs.declared.Scan.{Scan}
@@ -33,11 +33,11 @@ no_rows object = record {
   few_reasons = omega arith;
   few_context = omega arith;
   short_body = omega arith;
-  reason_rows = λ r h. in-nil h;
-  context_rows = λ r h. in-nil h;
-  object_context = λ o r h. in-nil h;
-  object_body = λ o r h. in-nil h;
-  meta_body = λ o r h. in-nil h;
+  reason_rows = λ r h. in_nil h;
+  context_rows = λ r h. in_nil h;
+  object_context = λ o r h. in_nil h;
+  object_body = λ o r h. in_nil h;
+  meta_body = λ o r h. in_nil h;
   valued = λ before r after e. let h = ap length e in absurd (omega (arith, length-append before (r ∷ after)));
 }
 

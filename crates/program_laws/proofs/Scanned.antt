@@ -10,7 +10,7 @@ use lib.Dec.{eqb}
 use lib.ListN.{length, length-append, get_or, replicate}
 use borrow.Author.Tests.{eqb-true, eqb-false, eq-eqb, ne_eqb, leb-false}
 use Rattle.lists.specs.Lists.{In, first, Pairs, when, bit, is_empty}
-use Rattle.lists.proofs.Lists.{test, clash, in-nil, in_left, in_right, in_append, all_snoc, pairs_snoc}
+use Rattle.lists.proofs.Lists.{test, clash, in_nil, in_left, in_right, in_append, all_snoc, pairs_snoc}
 use Rattle.model.specs.declared.Row.{Row}
 use Rattle.model.specs.declared.Scan.{Scan}
 use Rattle.model.specs.Program.{part_of, reasons, context, body, initial_atoms}
@@ -303,7 +303,7 @@ none_taken : Scanned [] at_first
 unfolding at_first initial_atoms part_of
 none_taken = record {
   ordered = tt;
-  past = λ q i. in-nil i;
+  past = λ q i. in_nil i;
   count = refl;
   few_rows = omega arith;
   atom_count = refl;
@@ -311,7 +311,7 @@ none_taken = record {
   reason_count = refl;
   context_count = refl;
   body_count = refl;
-  rows = λ q i. in-nil i;
+  rows = λ q i. in_nil i;
   rules = λ m n. no_rows false;
   kind = refl;
   meta_part = λ l o. omega arith;

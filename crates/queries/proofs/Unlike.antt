@@ -9,7 +9,7 @@ use lib.ListN.{get_or, set}
 use lib.Seq.{get_or-set_other}
 use borrow.Author.Tests.{eqb-true, eqb-false, not-true}
 use Rattle.lists.specs.Lists.{In, first, later, when, bind, if◌then◌else◌}
-use Rattle.lists.proofs.Lists.{in-nil, in_one, or_cases}
+use Rattle.lists.proofs.Lists.{in_nil, in_one, or_cases}
 use Rattle.model.specs.declared.Row.{Row}
 use Rattle.model.specs.Program.{any?, constant?, constant}
 use Rattle.model.specs.Configuration.{no_value, place, value_of}
@@ -28,7 +28,7 @@ meet_grows x n values v = at (any? x) (constant? x) (eqb (value_of values x) no_
 
     met : (b : Bool) → In v (when b values) → Grown values v
     met true h = same h
-    met false h = in-nil h
+    met false h = in_nil h
 
     at : (a k e : Bool) → eqb (value_of values x) no_value ≡ e →
         In v (if a then values ∷ [] else if k then when (eqb (constant x) n) values else if e then set values (place x) n ∷ [] else when (eqb (value_of values x) n) values) → Grown values v

@@ -11,7 +11,7 @@ use model::Row;
 use state::Scalars;
 
 // What is found so far: the values of variables 1 to 8, and the ids that the reasons matched, of which there are `count`.
-#[derive(Drop)]
+#[derive(Clone, Copy)]
 pub struct Bindings {
     pub values: [u32; 8],
     pub matched: [u32; 4],
@@ -19,7 +19,7 @@ pub struct Bindings {
 }
 
 // What stands in the columns i, a and b of a candidate, if it is there.
-#[derive(Drop)]
+#[derive(Clone, Copy)]
 pub struct Columns {
     pub i: u32,
     pub a: u32,
@@ -28,7 +28,7 @@ pub struct Columns {
 }
 
 // A number that must be met, if it is known.
-#[derive(Drop)]
+#[derive(Clone, Copy)]
 pub struct Wanted {
     pub number: u32,
     pub known: bool,

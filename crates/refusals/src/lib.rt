@@ -3,7 +3,7 @@ ghost use Rattle.std.specs.Prelude.{◌≤◌, length};
 ghost use Rattle.refusals.specs.Table.{Says, words};
 
 // The first bytes of an array.
-#[derive(Drop)]
+#[derive(Clone, Copy)]
 pub struct Words {
     pub bytes: [u8; 96],
     pub length: usize,

@@ -10,7 +10,7 @@ use script::{Command, Found};
 use state::Config;
 
 // The bench after a line, and how many rows the program has then.
-#[derive(Drop)]
+#[derive(Clone, Copy)]
 pub struct Turned {
     pub bench: Bench,
     pub rows: u32,

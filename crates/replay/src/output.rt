@@ -5,7 +5,7 @@ use state::{Config, Scalars};
 use stepping::{Did, How, Made};
 
 // The configuration, the number of the script's line, how many bytes of output are gathered, and whether the script is left.
-#[derive(Drop)]
+#[derive(Clone, Copy)]
 pub struct Bench {
     pub config: Config,
     pub line: u64,

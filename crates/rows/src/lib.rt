@@ -12,7 +12,7 @@ use model::Row;
 
 // Where a load stands after the rows so far, but for the ceilings: as the model's `Scan`. The ceilings are lent beside it, a 1 at each
 // predicate that has one.
-#[derive(Drop)]
+#[derive(Clone, Copy)]
 pub struct RuleScan {
     pub count: u32,
     pub atoms: u32,
@@ -323,7 +323,7 @@ fn fault(s: RuleScan, t: RuleScan, ceilings: &[u8], r: Row) -> u32
 }
 
 // What comes of a row: the scan after it, or a refusal's number (0: none) and line.
-#[derive(Drop)]
+#[derive(Clone, Copy)]
 pub struct Verdict {
     pub number: u32,
     pub line: u32,

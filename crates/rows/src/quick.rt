@@ -9,7 +9,7 @@ use model::Row;
 
 // Where a load stands after the rows so far: as the model's `Scan`, but for the count, the valued variables and the ceilings, which stand
 // beside it.
-#[derive(Drop)]
+#[derive(Clone, Copy)]
 pub struct Place {
     pub set: u32,
     pub rule: u32,
@@ -22,7 +22,7 @@ pub struct Place {
 }
 
 // A row that passes, and the place after it; or a row that is left to `take_row`.
-#[derive(Drop)]
+#[derive(Clone, Copy)]
 pub struct Quick {
     pub place: Place,
     pub sure: bool,

@@ -12,7 +12,7 @@ use state::Scalars;
 use stepping::Progress;
 
 // Why a run stopped: "phase 0, waiting, the limit, or a next step that would be refused", with its number.
-#[derive(Drop)]
+#[derive(Clone, Copy)]
 pub enum Stop {
     Phase0,
     Waiting,
@@ -21,7 +21,7 @@ pub enum Stop {
 }
 
 // What a run leaves beside the words: the scalars, "the steps taken, their made and gone summed, and which".
-#[derive(Drop)]
+#[derive(Clone, Copy)]
 pub struct Course {
     pub scalars: Scalars,
     pub steps: u32,

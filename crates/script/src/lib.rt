@@ -3,7 +3,7 @@ ghost use Rattle.std.specs.Prelude.{◌≡◌, ◌≤◌, length, drop};
 ghost use Rattle.lists.specs.Lists.{same};
 ghost use Rattle.script.specs.Reading.{number_of, passed_over, spaces_in, Within, WordEnds, Reads, Exact, InFours, cut_short, bench_named, command_named};
 
-#[derive(Drop)]
+#[derive(Clone, Copy)]
 pub enum Command {
     Load,
     Program,
@@ -23,7 +23,7 @@ pub enum Command {
 }
 
 // A word as a number.
-#[derive(Drop)]
+#[derive(Clone, Copy)]
 pub enum Number {
     Value(u32),
     Unreadable,
@@ -31,7 +31,7 @@ pub enum Number {
 
 // The numbers of a line: how many there are; or another number of words than is wanted; or the first word that is no number, the
 // k-th from 0 on, which stands from one place to another.
-#[derive(Drop)]
+#[derive(Clone, Copy)]
 pub enum Found {
     Numbers(usize),
     Miscounted { wanted: usize, there: usize },

@@ -8,7 +8,7 @@ use native.Mathlib.Omega.{arith}
 use lib.Dec.{eqb}
 use borrow.Author.Tests.{eqb-true, eq-eqb, not-true}
 use Rattle.lists.specs.Lists.{In, first, later, Pairs, if◌then◌else◌, rising_set, same, some}
-use Rattle.lists.proofs.Lists.{clash, in-nil, in_cons, in_one, in_map, or_cases}
+use Rattle.lists.proofs.Lists.{clash, in_nil, in_cons, in_one, in_map, or_cases}
 use Rattle.lists.proofs.Tests.{and2, same_equal, same_self}
 use Rattle.lists.proofs.Some.{some_in, in_some}
 use Rattle.lists.proofs.RisingSet.{rising_set_rises, rising_set_in, in_rising_set}
@@ -26,8 +26,8 @@ Rising l = Pairs (λ (x y : ℕ). x < y) l
 
 rising_once : (l m : List ℕ) → Rising l → Rising m → ((x : ℕ) → In x l ↔ In x m) → l ≡ m
 rising_once [] [] r t h = refl
-rising_once [] (y ∷ m) r t h = in-nil ((h y).1 (first refl))
-rising_once (x ∷ l) [] r t h = in-nil ((h x).0 (first refl))
+rising_once [] (y ∷ m) r t h = in_nil ((h y).1 (first refl))
+rising_once (x ∷ l) [] r t h = in_nil ((h x).0 (first refl))
 rising_once (x ∷ l) (y ∷ m) r t h =
     let e : x ≡ y = heads (in_cons ((h x).0 (first refl))) (in_cons ((h y).1 (first refl))) in
     let k = rising_once l m r.1 t.1 (λ z. (
@@ -60,7 +60,7 @@ no_variable v w x h = at (variable? x) refl
 module _ (v w : List ℕ) where
   bodies_agree : (rs : List Row) → same (body_values rs v) (body_values rs w) ≡ true → (r : Row) → In r rs → Agree v w r
   unfolding same body_values
-  bodies_agree [] e r h = in-nil h
+  bodies_agree [] e r h = in_nil h
   bodies_agree (q ∷ rs) e r h =
       let a = (and-eq-true_iff (eqb (body_value v q.i) (body_value w q.i)) _).0 e in
       let b = (and-eq-true_iff (eqb (body_value v q.a) (body_value w q.a)) _).0 a.1 in

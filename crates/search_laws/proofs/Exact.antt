@@ -3,7 +3,7 @@ use mathlib.Core.Path.{◌≡◌, refl, sym, subst}
 use mathlib.Core.List.{List, [], ◌∷◌}
 use Prim.Native.Nat.{ℕ}
 use Rattle.lists.specs.Lists.{In, first}
-use Rattle.lists.proofs.Lists.{in-nil, in_keep, keep_in}
+use Rattle.lists.proofs.Lists.{in_nil, in_keep, keep_in}
 use Rattle.model.specs.declared.Row.{Row}
 use Rattle.model.specs.Configuration.{Config}
 use Rattle.model.specs.Graph.{Sound}
@@ -41,5 +41,5 @@ search_exact = record {
 }
   where
     some_first : {g : Found} (l : List Found) → In g l → (h : Found) × (rest : List Found) × (l ≡ h ∷ rest)
-    some_first [] i = in-nil i
+    some_first [] i = in_nil i
     some_first (x ∷ l) i = (x, l, refl)

@@ -9,7 +9,7 @@ use lib.Dec.{eqb, leb}
 use lib.ListN.{set}
 use borrow.Author.Tests.{eqb-true, eqb-false, eq-eqb, ne_eqb, leb-true, leb-false, le-leb}
 use Rattle.lists.specs.Lists.{In, first, when, if◌then◌else◌, bind, is_empty}
-use Rattle.lists.proofs.Lists.{test, clash, in-nil, in_one, in_map, map_in, in_cast}
+use Rattle.lists.proofs.Lists.{test, clash, in_nil, in_one, in_map, map_in, in_cast}
 use Rattle.lists.proofs.Bind.{append-nil, bind_in, in_bind}
 use Rattle.model.specs.declared.Row.{Row}
 use Rattle.model.specs.Program.{any?, variable?, constant?, constant}
@@ -37,7 +37,7 @@ constant_not_any x e = let h = leb-true 9 x e in ne_eqb x 0 (omega arith)
 module _ (x n : ℕ) (v : List ℕ) where
   when_in : {A : Type 0} (b : Bool) {w y : A} → In w (when b y) → (b ≡ true) × (w ≡ y)
   when_in true h = (refl, in_one h)
-  when_in false h = in-nil h
+  when_in false h = in_nil h
 
   in_when : {A : Type 0} (b : Bool) {w y : A} → b ≡ true → w ≡ y → In w (when b y)
   in_when true e p = first p
@@ -140,7 +140,7 @@ module _ (c : Config) (r : Row) (f : Found) where
   empty_none e k i w h = no (query_row c r f) e (in_takes k (found r k f w) (takes k (in_shown c r k i) w h))
     where
       no : {g : Found} (l : List Found) → is_empty l ≡ true → In g l → ⊥
-      no [] e i = in-nil i
+      no [] e i = in_nil i
       no (g ∷ l) e i = clash e refl
 
 -- a list of one element at most

@@ -6,7 +6,7 @@ use mathlib.Core.List.{List, [], ◌∷◌, map}
 use Prim.Native.Nat.{ℕ, ◌<◌}
 use lib.Dec.{eqb}
 use Rattle.lists.specs.Lists.{In, first, later, Pairs, keep, if◌then◌else◌, within}
-use Rattle.lists.proofs.Lists.{in_map, map_in, in-nil, pairs_keep, pairs_map}
+use Rattle.lists.proofs.Lists.{in_map, map_in, in_nil, pairs_keep, pairs_map}
 use Rattle.lists.proofs.Bind.{pairs_bind}
 use Rattle.lists.proofs.Tests.{map_pairs}
 use Rattle.model.specs.declared.Row.{Row}
@@ -57,7 +57,7 @@ module _ (c : Config) (s : Sound (graph c)) where
     where
       one : (b : Bool) (X : List Candidate) → Pairs Earlier X → Pairs Earlier (if b then X else candidate 0 c.cycle 0 ∷ [])
       one true X h = h
-      one false X h = (λ y i. in-nil i, tt)
+      one false X h = (λ y i. in_nil i, tt)
 
       or_else : (b : Bool) (X Y : List Candidate) → Pairs Earlier X → Pairs Earlier Y → Pairs Earlier (if b then X else Y)
       or_else true X Y h k = h

@@ -4,7 +4,7 @@ use mathlib.Core.Bool.{Bool, true, false, true≢false}
 use mathlib.Core.Logic.{◌⊎◌, inl, inr, ⊎_elim}
 use mathlib.Core.List.{List, [], ◌∷◌, ◌++◌, map}
 use Rattle.lists.specs.Lists.{In, first, later, Pairs, when, put, keep, bind, is_empty}
-use Rattle.lists.proofs.Lists.{test, clash, in-nil, in_cons, in_one, in_map, map_in, in_cast, in_keep}
+use Rattle.lists.proofs.Lists.{test, clash, in_nil, in_cons, in_one, in_map, map_in, in_cast, in_keep}
 use Rattle.lists.proofs.Bind.{append-nil, keep_append, bind_in, in_bind, bind_append}
 use Rattle.model.specs.declared.Row.{Row}
 use Rattle.model.specs.Configuration.{Config}
@@ -24,7 +24,7 @@ asked c r f e = rw e
 
 when_holds : (b : Bool) (f g : Found) → In g (when b f) → (b ≡ true) × (g ≡ f)
 when_holds true f g h = (refl, in_one h)
-when_holds false f g h = in-nil h
+when_holds false f g h = in_nil h
 
 module _ (c : Config) where
   pub solved : (rs : List Row) (f g : Found) → In g (matches c rs f) → (ks : List Candidate) × Solves c rs f ks g
@@ -109,7 +109,7 @@ module _ (c : Config) (p : Found → Bool) where
           taken = a.taken;
           solves = a.solves;
           least = λ l j u ls w t s q. ⊎_elim
-              (λ m. in-nil (subst (In w) z (in_keep p (in_bind (matches c rs) (answer_in k u (subst (λ (v : Candidate). Takes c r v f u) m t)) (found_by_search c rs u ls w s)) q)))
+              (λ m. in_nil (subst (In w) z (in_keep p (in_bind (matches c rs) (answer_in k u (subst (λ (v : Candidate). Takes c r v f u) m t)) (found_by_search c rs u ls w s)) q)))
               (λ m. a.least l m u ls w t s q)
               (in_cons j);
         }

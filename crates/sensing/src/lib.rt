@@ -11,7 +11,7 @@ use model::Row;
 use state::Scalars;
 
 // A row of sense.
-#[derive(Drop)]
+#[derive(Clone, Copy)]
 pub struct Reading {
     pub sign: u32,
     pub p: u32,
@@ -20,7 +20,7 @@ pub struct Reading {
 }
 
 // What a work leaves: a refusal's number or 0, the scalars, how many instances went.
-#[derive(Drop)]
+#[derive(Clone, Copy)]
 pub struct Work {
     pub scalars: Scalars,
     pub gone: u32,
@@ -36,7 +36,7 @@ fn applies(r: Row, reading: Reading) -> bool
 }
 
 // Where ceilings stand: none stands before `from` or from `to` on.
-#[derive(Drop)]
+#[derive(Clone, Copy)]
 pub struct Bounds {
     pub from: usize,
     pub to: usize,

@@ -7,7 +7,7 @@ ghost use Rattle.program_laws.specs.Lawful.{NotLater};
 ghost use Rattle.spans.specs.Spans.{before, Bound};
 
 // Rows from..to of a program.
-#[derive(Drop)]
+#[derive(Clone, Copy)]
 pub struct Span {
     pub from: usize,
     pub to: usize,

@@ -22,7 +22,7 @@ pub const ATOM_CYCLE: usize = 1024;
 pub const PLANS_AT: usize = 1280;
 
 // Phase, cycle, next id, the plan waiting for an answer or 0, how many atoms and how many plans live.
-#[derive(Drop)]
+#[derive(Clone, Copy)]
 pub struct Scalars {
     pub phase: u32,
     pub cycle: u32,
@@ -33,14 +33,14 @@ pub struct Scalars {
 }
 
 // 256 atoms by columns (ids, p, a, b, cycles), then 64 plans of 18 (id set rule left flags subgoal, four justifications, eight values).
-#[derive(Drop)]
+#[derive(Clone, Copy)]
 pub struct Config {
     pub words: [u32; 2432],
     pub scalars: Scalars,
 }
 
 // A plan by value: its justifications rise, with zeros behind.
-#[derive(Drop)]
+#[derive(Clone, Copy)]
 pub struct Plan {
     pub id: u32,
     pub set: u32,

@@ -6,7 +6,7 @@ ghost use Rattle.state.specs.View.{plan_at, config_of, LivePlan};
 use state::Scalars;
 
 // "the plan or last atom made, or none"
-#[derive(Drop)]
+#[derive(Clone, Copy)]
 pub enum Made {
     Nothing,
     Atom(u32),
@@ -14,7 +14,7 @@ pub enum Made {
 }
 
 // "how: empty, held by its subgoal, done, failed"
-#[derive(Drop)]
+#[derive(Clone, Copy)]
 pub enum How {
     Empty,
     Held,
@@ -23,7 +23,7 @@ pub enum How {
 }
 
 // "What a step did is one of: fired .., moved on, executed .., waits .., cycle ended". A refused step did nothing.
-#[derive(Drop)]
+#[derive(Clone, Copy)]
 pub enum Did {
     Refused,
     Fired { set: u32, rule: u32, made: Made },
@@ -34,7 +34,7 @@ pub enum Did {
 }
 
 // What a step leaves beside the words: the scalars, how many instances went, the refusal's number or 0, what it did.
-#[derive(Drop)]
+#[derive(Clone, Copy)]
 pub struct Progress {
     pub scalars: Scalars,
     pub gone: u32,

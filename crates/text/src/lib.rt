@@ -7,26 +7,26 @@ ghost use Rattle.text.specs.Reading.{Counted, int_at, row_line, line_of, Ends};
 use model::Row;
 
 // A place in a text.
-#[derive(Drop)]
+#[derive(Clone, Copy)]
 pub struct Cursor {
     pub at: usize,
 }
 
 // A number read off a text, and the place after it.
-#[derive(Drop)]
+#[derive(Clone, Copy)]
 pub struct Digits {
     pub value: u32,
     pub next: usize,
 }
 
 // An integer, held 9 higher, and the place after it.
-#[derive(Drop)]
+#[derive(Clone, Copy)]
 pub enum Read {
     Number(u32, Cursor),
     Unreadable,
 }
 
-#[derive(Drop)]
+#[derive(Clone, Copy)]
 pub enum Line {
     Whole(Row),
     Unread,
