@@ -1,4 +1,6 @@
 // The words of one slice into another.
+#![tactic(auto)]
+
 ghost use Rattle.std.specs.Prelude.{◌≡◌, length};
 
 // All words, where both are of one length.

@@ -1,4 +1,6 @@
 // Records of one width, one after the other in lent words. The width is a parameter; every table of the state is such a table.
+#![tactic(auto)]
+
 ghost use Rattle.std.specs.Prelude.{◌≡◌, ◌*◌, ◌+◌, ◌<◌, ◌≤◌, length, drop, get_or};
 ghost use Rattle.lists.specs.Lists.{Pairs};
 ghost use Rattle.lists.specs.Tables.{keep_by, index_of};

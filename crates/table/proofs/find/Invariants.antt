@@ -1,0 +1,14 @@
+-- Every record before `low` has a lower first number, every record from `high` on has none that is lower.
+use mathlib.Core.Path.{◌≡◌}
+use Prim.Native.Nat.{ℕ, ◌+◌, ◌*◌, ◌≤◌, ◌<◌, ◌-◌, ◌/◌}
+use native.Mathlib.Omega.{arith}
+use lib.ListN.{get_or}
+use borrow.Author.Rules.{rules}
+use Rattle.table.proofs.Rows.{below, found_at, all_lower, all_higher, nowhere}
+use Rattle.table.proofs.find.Given as goal
+
+abbrev pub invariant-loop-low : goal.invariant-loop-low
+invariant-loop-low l = (l.low ≤ l.high) × (l.high ≤ l.n) × ((k : ℕ) → k < l.low → get_or l.words (k * l.width) 0 < l.id) × ((k : ℕ) → l.high ≤ k → k < l.n → l.id ≤ get_or l.words (k * l.width) 0)
+
+abbrev pub decreases-loop-low : goal.decreases-loop-low
+decreases-loop-low l = l.high - l.low

@@ -1,0 +1,47 @@
+use mathlib.Core.Path.{◌≡◌, ap, ◌∙◌}
+use mathlib.Core.Bool.{Bool, true, false}
+use mathlib.Core.List.{List}
+use mathlib.Core.Logic.{⊎_elim}
+use Prim.Native.Nat.{ℕ, ◌≤◌, ◌<◌, ◌-◌}
+use native.Mathlib.Omega.{arith}
+use lib.ListN.{length}
+use borrow.Author.Rules.{rules}
+use Rattle.lists.specs.Tables.{keep_by}
+use Rattle.lists.proofs.Bind.{append-nil}
+use Rattle.lists.proofs.Tables.{keep_by_nil, keep_by_more}
+use Rattle.table.specs.Rows.{row, rows}
+use Rattle.table.proofs.Rows.{below, Compacted, compacted_none, compacted_kept, compacted_left_out}
+use Rattle.table.proofs.keep.Invariants.{kept}
+use Rattle.table.proofs.keep.Goals as goal
+
+pub loop-i-init : goal.loop-i-init
+loop-i-init c = (search rules, compacted_none _ _ _ (keep_by_nil c.args.marks.now))
+
+pub copy_down-requires : goal.copy_down-requires
+copy_down-requires c =
+    let h = below c.loop-i.i c.args.n c.args.width c.loop-i-test.true in
+    (omega (arith, c.loop-i.invariant.1.count), omega (arith, c.loop-i.invariant.1.long))
+
+pub loop-i-preserved : goal.loop-i-preserved
+loop-i-preserved c =
+    let a = c.args in
+    let ms = a.marks.now in
+    let l₀ = a.words.now in
+    let l = c.loop-i.words in
+    let i = c.loop-i.i in
+    let j = c.loop-i.j in
+    let h = below i a.n a.width c.loop-i-test.true in
+    let hm : i < length ms = omega arith in
+    ?
+
+pub shape_of-words : goal.shape_of-words
+shape_of-words c = c.loop-i.invariant.1.long
+
+pub returns : goal.returns
+returns c =
+    let a = c.args in
+    let e : c.loop-i.i ≡ a.n = omega arith in (
+      omega (arith, c.loop-i.invariant.1.count),
+      c.loop-i.invariant.1.front ∙ ap (kept a.width a.marks.now a.words.now) e,
+      rw (← e) c.loop-i.invariant.1.behind,
+    )
