@@ -1,4 +1,6 @@
 // The actions of a meta rule, in place and in order.
+#![tactic(auto)]
+
 ghost use Rattle.std.specs.Prelude.{◌≡◌, true, ◌≢◌, ◌≤◌, length};
 ghost use Rattle.model.specs.Configuration.{operand as operand-of};
 ghost use Rattle.model.specs.Log.{answer_of};

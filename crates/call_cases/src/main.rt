@@ -1,6 +1,8 @@
 // Calls on configurations, and what each answers: a line `case number made gone`, then of what it leaves `phase waiting atoms plans`
 // and of the first plan, if one is left, `left flags subgoal`. Then whole plays: a line `case number line calls made gone`, and of what
 // is left `phase cycle atoms plans`.
+#![tactic(auto)]
+
 use interpreter::Reply;
 use state::{Config, Scalars};
 

@@ -1,4 +1,6 @@
 // Why a row is refused: the limit, the rule or the variable, so that a setter can mend the line.
+#![tactic(auto)]
+
 ghost use Rattle.std.specs.Prelude.{◌≡◌, true, false, ◌≤◌};
 ghost use Rattle.model.specs.Load.{too_many, lacking, against_kind, breaks, valueless};
 ghost use Rattle.rows.specs.Scanning.{Small};

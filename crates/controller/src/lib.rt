@@ -1,5 +1,7 @@
 // "The machine's control program holds one configuration and changes it in place": each call takes it by `&mut`, passes it to the call
 // of `interpreter` or `loading`, and leaves the next one in its place. A refused call leaves the very configuration that it found.
+#![tactic(auto)]
+
 ghost use Rattle.std.specs.Prelude.{◌≡◌, ◌≢◌};
 ghost use Rattle.model.specs.Claims.{to_sense, to_step, to_answer, to_delete, reply};
 ghost use Rattle.model.specs.Run.{run as run-of-steps};

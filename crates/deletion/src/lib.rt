@@ -1,4 +1,6 @@
 // Deletion in place: what a target reaches is marked in one pass over the plans in rising id, then both tables are compacted.
+#![tactic(auto)]
+
 ghost use Rattle.std.specs.Prelude.{◌≡◌, true, false, map, ℕ, ◌+◌, ◌-◌, ◌<◌, ◌≤◌, length, get_or, drop};
 ghost use Rattle.lists.specs.Tables.{index_of, keep_by};
 ghost use Rattle.model.specs.Graph.{links, reached};

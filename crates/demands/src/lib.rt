@@ -1,4 +1,6 @@
 // The demands. The one function does nothing: it promises the claims, so that no check passes without their proofs.
+#![tactic(auto)]
+
 ghost use Rattle.model.specs.Claims.{DemandOne, DemandTwo, DemandThree, KeepsWellFormed, RunIsItsSteps};
 
 pub fn demands(x: u32) -> u32

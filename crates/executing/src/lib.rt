@@ -1,4 +1,6 @@
 // The exec phase, in place: the lowest plan that is due takes its next step, or the cycle ends.
+#![tactic(auto)]
+
 ghost use Rattle.std.specs.Prelude.{◌≡◌, ◌≢◌, map, ℕ, ◌<◌, ◌≤◌, ltb, length};
 ghost use Rattle.lists.specs.Lists.{Pairs, keep, when, first_of};
 ghost use Rattle.model.specs.Log.{begin, and_then, answer_of};

@@ -1,4 +1,6 @@
 // Why a text does not load: the cause of its refusal, as exact as a setter needs it to mend the line.
+#![tactic(auto)]
+
 ghost use Rattle.std.specs.Prelude.{◌≡◌, ◌≢◌, ◌≤◌};
 ghost use Rattle.std.proofs.Math.Option.{none};
 ghost use Rattle.model.specs.Text.{read_row};

@@ -1,4 +1,6 @@
 // Which atoms there may be: a mark at a place that p, a and b give. A long search leaves a row at once that no atom can fit.
+#![tactic(auto)]
+
 ghost use Rattle.std.specs.Prelude.{◌≡◌, true, ◌+◌, ◌<◌, ◌≤◌, length};
 ghost use Rattle.queries.specs.View.{found_in, Limits, room, Sized, Kept};
 ghost use Rattle.queries.specs.Answers.{answers, width, given_ids, Next};

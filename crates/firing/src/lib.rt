@@ -1,4 +1,6 @@
 // The first rule of a set that has a match fires, in place; or the set is left.
+#![tactic(auto)]
+
 ghost use Rattle.std.specs.Prelude.{◌≡◌, ◌≢◌, ◌≤◌};
 ghost use Rattle.model.specs.Program.{sets};
 ghost use Rattle.model.specs.Matching.{firing};

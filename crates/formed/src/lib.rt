@@ -1,4 +1,6 @@
 // Well-formedness of a configuration with its program: one pass over the atoms, one over the plans.
+#![tactic(auto)]
+
 ghost use Rattle.std.specs.Prelude.{◌≡◌, map, ◌+◌, ◌≤◌, length};
 ghost use Rattle.lists.specs.Lists.{Pairs};
 ghost use Rattle.model.specs.Program.{sets};

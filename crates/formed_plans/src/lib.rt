@@ -1,4 +1,6 @@
 // Whether one plan is well formed: its links, its rule, its values and its first step.
+#![tactic(auto)]
+
 ghost use Rattle.std.specs.Prelude.{◌≡◌, true, false, not, ◌-◌, ◌/◌, ◌<◌, ◌≤◌, length};
 ghost use Rattle.lists.specs.Lists.{Pairs, member};
 ghost use Rattle.model.specs.Deletion.{node, graph};

@@ -6,6 +6,8 @@
 //   report 8
 // The calls named trusted test neither lengths nor words: for languages whose types guarantee that nothing is handed in but what a load or
 // a call left, or what jq_check found well formed. The tested ones are the default.
+#![tactic(auto)]
+
 ghost use Rattle.std.specs.Prelude.{◌≡◌, ◌≢◌, ◌*◌, length, take, get_or};
 ghost use Rattle.model.specs.Claims.{to_sense, to_step, to_answer, to_delete};
 ghost use Rattle.model.specs.Log.{fired, executed, called};

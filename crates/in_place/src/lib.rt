@@ -1,4 +1,6 @@
 // The calls in place: each works on the words that it is lent. A refused call leaves them as they were.
+#![tactic(auto)]
+
 ghost use Rattle.std.specs.Prelude.{◌≡◌, ◌≢◌, ◌||◌, ◌/◌, ◌≤◌, length};
 ghost use Rattle.model.specs.Claims.{to_sense, to_step, to_answer, to_delete, reply};
 ghost use Rattle.model.specs.Run.{run as run-of-steps};

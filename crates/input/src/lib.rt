@@ -1,4 +1,6 @@
 // Standard input, line by line, in a lent buffer.
+#![tactic(auto)]
+
 ghost use Rattle.std.specs.Prelude.{◌≡◌, ◌+◌, ◌-◌, ◌≤◌, length};
 
 // What stands where a line was looked for.

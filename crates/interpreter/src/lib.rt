@@ -1,5 +1,7 @@
 // The calls by value: each takes a program and a configuration and gives its answer with the next configuration. A refused call gives
 // back the very configuration that it was given.
+#![tactic(auto)]
+
 ghost use Rattle.std.specs.Prelude.{◌≡◌, ◌≢◌, ◌+◌, ◌-◌, ◌<◌, ◌≤◌, eqb, length};
 ghost use Rattle.lists.specs.Lists.{if◌then◌else◌};
 ghost use Rattle.model.specs.Claims.{to_sense, to_step, to_answer, to_delete, reply};

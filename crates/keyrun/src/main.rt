@@ -1,4 +1,6 @@
 // Reads `key.prog` ("one it cannot open counts as empty") and prints what `printed_run` makes of it.
+#![tactic(auto)]
+
 ghost use Rattle.io.specs.Counts.{IsPrefixLen};
 
 // A legal text is far below 65,536 bytes, so a longer one is refused in the part that is read.

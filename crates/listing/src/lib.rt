@@ -1,4 +1,6 @@
 // The listing of a configuration, as bytes into a lent buffer.
+#![tactic(auto)]
+
 ghost use Rattle.std.specs.Prelude.{◌≡◌, [], ◌∷◌, ◌++◌, ◌+◌, ◌<◌, ◌≤◌, length, drop};
 ghost use Rattle.model.specs.Render.{decimal};
 ghost use Rattle.model.specs.Run.{atom_line, plan_line, instances, as_text, listing as listing-of, refusal};

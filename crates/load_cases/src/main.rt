@@ -1,4 +1,6 @@
 // Texts, whole and damaged, and what a load answers to each: a line `case number line rows atoms`.
+#![tactic(auto)]
+
 use state::Config;
 
 // Puts the piece behind the first bytes of a text, as far as there is room, and answers how many there are then.

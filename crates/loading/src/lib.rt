@@ -1,4 +1,6 @@
 // Load: a program text, to the rows of a program in lent words and a fresh configuration.
+#![tactic(auto)]
+
 ghost use Rattle.std.specs.Prelude.{◌≡◌, ◌-◌, ◌≤◌, length};
 ghost use Rattle.model.specs.Program.{initial_atoms};
 ghost use Rattle.model.specs.Configuration.{fresh};

@@ -1,4 +1,6 @@
 // The matches of rules: the backtracking search over a rule's rows, the test for an equal plan, and the choice of the rule.
+#![tactic(auto)]
+
 pub mod hints;
 pub mod sets;
 

@@ -1,4 +1,6 @@
 // The plain data that text, program and interpreter share. What they mean stands in specs/.
+#![tactic(auto)]
+
 ghost use Rattle.std.specs.Prelude.{◌≡◌};
 ghost use Rattle.model.specs.Program.{constant as constant_of};
 ghost use Rattle.model.specs.Tables.{KeysHold, CasesHold};

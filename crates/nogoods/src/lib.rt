@@ -1,4 +1,6 @@
 // A table of nogoods: what failing searches tell later ones. Of two that claim the same place the newer stays; a lost one costs time alone.
+#![tactic(auto)]
+
 ghost use Rattle.std.specs.Prelude.{◌≡◌, true, ◌≢◌, ℕ, ◌<◌, ◌≤◌, length, get_or};
 ghost use Rattle.table.specs.Rows.{row};
 ghost use Rattle.nogoods.specs.Nogoods.{has, no_set, width, places, size, nogood, values_in, count_in, ids_in, Recalled, Replaced};

@@ -1,4 +1,6 @@
 // A plan with its rule: what its operands stand for, and its next step.
+#![tactic(auto)]
+
 ghost use Rattle.std.specs.Prelude.{◌≡◌, ◌<◌, ◌≤◌, length};
 ghost use Rattle.lists.specs.Lists.{Pairs, when, first_of};
 ghost use Rattle.model.specs.Configuration.{value_of, operand, remainder};

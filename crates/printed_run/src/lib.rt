@@ -1,4 +1,6 @@
 // What the program keyrun prints for a text, as bytes into a lent buffer.
+#![tactic(auto)]
+
 ghost use Rattle.std.specs.Prelude.{◌≡◌, true, ◌++◌, ◌≤◌, length, take, drop};
 ghost use Rattle.model.specs.Configuration.{fresh};
 ghost use Rattle.model.specs.WellFormed.{given_well};

@@ -1,4 +1,6 @@
 // Programs: their rows in lent words, the test that they are well formed, and the load of a program text.
+#![tactic(auto)]
+
 ghost use Rattle.std.specs.Prelude.{◌≡◌, true, ◌+◌, ◌*◌, ◌%◌, ◌≤◌, length};
 ghost use Rattle.table.specs.Rows.{placed};
 ghost use Rattle.program.specs.Rows.{row_at, row_words, program_formed};

@@ -1,4 +1,6 @@
 // One row of a rule: which of its candidates fit, and what the row gives, one answer after the other.
+#![tactic(auto)]
+
 pub mod candidates;
 
 ghost use Rattle.std.specs.Prelude.{◌≡◌, true, false, ◌+◌, ◌≤◌, length};

@@ -1,4 +1,6 @@
 // The cause of a refusal in plain words, by its number in document 01's table.
+#![tactic(auto)]
+
 ghost use Rattle.std.specs.Prelude.{◌≤◌, length};
 ghost use Rattle.refusals.specs.Table.{Says, words};
 

@@ -19,6 +19,8 @@
 //
 // A refused call prints `refused N: WORDS`, a refused load `refused N line L: WORDS`. A line that is not understood prints
 // `error line L: REASON` and ends the replay.
+#![tactic(auto)]
+
 mod calls;
 mod lines;
 mod output;

@@ -1,5 +1,7 @@
 // The tests on the rows of a program, in the order 5, 3, 4. Most are made of `&`, `|` and `!`, which the model's `&&`, `||` and `not`
 // are; those that lead to others by the row's set or part take that way alone, since every call tests its program.
+#![tactic(auto)]
+
 pub mod quick;
 
 ghost use Rattle.std.specs.Prelude.{◌≡◌, List, [], ℕ, ◌≤◌, length, replicate};

@@ -1,4 +1,6 @@
 // A step by its phase, in place; and steps in turn.
+#![tactic(auto)]
+
 ghost use Rattle.std.specs.Prelude.{◌≡◌, ◌≢◌, ◌≤◌};
 ghost use Rattle.model.specs.Log.{answer_of};
 ghost use Rattle.model.specs.Calls.{step};

@@ -1,4 +1,6 @@
 // A line of a script: its words, which command it is, its numbers.
+#![tactic(auto)]
+
 ghost use Rattle.std.specs.Prelude.{◌≡◌, ◌≤◌, length, drop};
 ghost use Rattle.lists.specs.Lists.{same};
 ghost use Rattle.script.specs.Reading.{number_of, passed_over, spaces_in, Within, WordEnds, Reads, Exact, InFours, cut_short, bench_named, command_named};

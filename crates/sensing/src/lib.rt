@@ -1,4 +1,6 @@
 // The work of sense, in place: readings added and withdrawn, row by row.
+#![tactic(auto)]
+
 ghost use Rattle.std.specs.Prelude.{◌≡◌, true, ◌+◌, ◌-◌, ◌*◌, ◌/◌, ◌<◌, ◌≤◌, length};
 ghost use Rattle.lists.specs.Lists.{every};
 ghost use Rattle.program.specs.Rows.{row_at, rows_of};

@@ -1,4 +1,6 @@
 // Where the rows of a rule's part stand in a program: by halves, since rows stand by set, rule and part.
+#![tactic(auto)]
+
 ghost use Rattle.std.specs.Prelude.{◌≡◌, ◌&&◌, ◌+◌, ◌*◌, ◌/◌, ◌-◌, ◌<◌, ◌≤◌, eqb, length};
 ghost use Rattle.lists.specs.Lists.{Pairs};
 ghost use Rattle.model.specs.Program.{part_of};

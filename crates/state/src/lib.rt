@@ -1,4 +1,6 @@
 // The configuration: atoms and plans as two tables in one slice of words, the scalars beside it by value.
+#![tactic(auto)]
+
 ghost use Rattle.std.specs.Prelude.{◌≡◌, false, not, ℕ, ◌+◌, ◌-◌, ◌*◌, ◌<◌, ◌≤◌, length, get_or};
 ghost use Rattle.lists.specs.Lists.{member};
 ghost use Rattle.lists.specs.Tables.{index_of, trimmed};

@@ -1,4 +1,6 @@
 // What a step did and what it leaves; a plan that was executed: done or failed, and stepped.
+#![tactic(auto)]
+
 ghost use Rattle.std.specs.Prelude.{◌≡◌, ◌≤◌};
 ghost use Rattle.model.specs.Calls.{set_stepped, set_failed, remove_step};
 ghost use Rattle.state.specs.View.{plan_at, config_of, LivePlan};

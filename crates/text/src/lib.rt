@@ -1,4 +1,6 @@
 // The reader of program texts: bytes to integers, integers to rows, and where a line ends.
+#![tactic(auto)]
+
 ghost use Rattle.std.specs.Prelude.{◌≡◌, false, ◌≢◌, ℕ, ◌+◌, ◌<◌, ◌≤◌, min, length, get_or};
 ghost use Rattle.lists.specs.Lists.{same};
 ghost use Rattle.model.specs.Text.{names};

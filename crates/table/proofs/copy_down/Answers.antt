@@ -8,8 +8,9 @@ use borrow.Author.Rules.{rules}
 use Rattle.table.specs.Rows.{row, placed}
 use Rattle.table.proofs.Rows.{copy_more, placed_self}
 use Rattle.table.proofs.copy_down.Goals as goal
+use Rattle.table.proofs.copy_down.Goals.{Start}
 
-lower : (c : goal.Start) → c.args.k * c.args.width ≤ c.args.i * c.args.width
+lower : (c : Start) → c.args.k * c.args.width ≤ c.args.i * c.args.width
 lower c = mul-le-mul_right c.args.width c.requires.0
 
 pub returns-then-k-i : goal.returns-then-k-i

@@ -5,12 +5,13 @@ use lib.ListN.{get_or}
 use borrow.Author.Rules.{rules}
 use Rattle.table.proofs.Rows.{below, found_at, all_lower, all_higher, nowhere}
 use Rattle.table.proofs.find.Goals as goal
+use Rattle.table.proofs.find.Goals.{At-loop-low, In-loop-low}
 
 -- the middle is a record
-abbrev middle : goal.At-loop-low → ℕ
+abbrev middle : At-loop-low → ℕ
 middle b = b.loop-low.low + (b.loop-low.high - b.loop-low.low) / 2
 
-within : (c : goal.In-loop-low) → middle c.before * c.args.width + c.args.width ≤ c.args.n * c.args.width
+within : (c : In-loop-low) → middle c.before * c.args.width + c.args.width ≤ c.args.n * c.args.width
 within c = below (middle c.before) c.args.n c.args.width (omega arith)
 
 pub bounds-words-middle : goal.bounds-words-middle

@@ -13,6 +13,7 @@ use Rattle.table.specs.Rows.{row, rows}
 use Rattle.table.proofs.Rows.{below, Compacted, compacted_none, compacted_kept, compacted_left_out}
 use Rattle.table.proofs.keep.Invariants.{kept}
 use Rattle.table.proofs.keep.Goals as goal
+use Rattle.table.proofs.keep.Goals.{then-marks-i, else-marks-i}
 
 pub loop-i-init : goal.loop-i-init
 loop-i-init c = (search rules, compacted_none _ _ _ (keep_by_nil c.args.marks.now))
@@ -32,7 +33,10 @@ loop-i-preserved c =
     let j = c.loop-i.j in
     let h = below i a.n a.width c.loop-i-test.true in
     let hm : i < length ms = omega arith in
-    ?
+    elim c.if-marks-i.branch [
+      | then-marks-i w ↦ rw (w.words-is, w.j-is, w.copy_down.ensures) (search rules, compacted_kept a.width (kept a.width ms l₀) l₀ l i j c.loop-i.invariant.1 (omega arith) (keep_by_more ms (row a.width l₀) i true hm w.if-marks-i.true))
+      | else-marks-i w ↦ rw (w.words-is, w.j-is) (search rules, compacted_left_out a.width (kept a.width ms l₀) l₀ l i j c.loop-i.invariant.1 (keep_by_more ms (row a.width l₀) i false hm w.if-marks-i.false ∙ append-nil _))
+    ]
 
 pub shape_of-words : goal.shape_of-words
 shape_of-words c = c.loop-i.invariant.1.long

@@ -1,0 +1,14 @@
+-- The words before k have come down: those of the eights before the loop, the others in it.
+use borrow.Author.Rules.{rules}
+use mathlib.Core.Path.{◌≡◌, subst, ◌∙◌}
+use Prim.Native.Nat.{ℕ, ◌+◌, ◌-◌, ◌≤◌}
+use native.Mathlib.Omega.{arith}
+use Rattle.deletion.specs.Moves.{Moved}
+use Rattle.deletion.proofs.Moves.{moved_none, moved_next, moved_on}
+use Rattle.deletion.proofs.move_down.Given as goal
+
+abbrev pub invariant-loop-k : goal.invariant-loop-k
+invariant-loop-k l = (l.initial.k ≤ l.k) × (l.k ≤ l.to + l.n) × Moved l.initial.words (l.initial.k + (l.from - l.to)) l.initial.k (l.k - l.initial.k) l.words
+
+abbrev pub decreases-loop-k : goal.decreases-loop-k
+decreases-loop-k l = l.to + l.n - l.k

@@ -1,0 +1,18 @@
+-- The marks before k are true: those of the eights that were passed, then one by one.
+use borrow.Author.Rules.{rules}
+use Prim.Native.Nat.{ℕ, ◌+◌, ◌-◌, ◌<◌, ◌≤◌}
+use native.Mathlib.Omega.{arith}
+use mathlib.Core.Path.{◌≡◌, sym, subst}
+use mathlib.Core.Logic.{⊎_elim, ◌≢◌}
+use borrow.Author.Tests.{not-false}
+use Rattle.lists.proofs.Tables.{equal_or_not}
+use Rattle.deletion.proofs.Moves.{less}
+use mathlib.Core.Bool.{true, false}
+use lib.ListN.{get_or}
+use Rattle.deletion.proofs.run_end.Given as goal
+
+abbrev pub invariant-loop-k : goal.invariant-loop-k
+invariant-loop-k l = (l.from ≤ l.k) × (l.k ≤ l.n) × ((i : ℕ) → l.from ≤ i → i < l.k → get_or l.left i false ≡ true)
+
+abbrev pub decreases-loop-k : goal.decreases-loop-k
+decreases-loop-k l = l.n - l.k

@@ -1,0 +1,62 @@
+-- The step is removed, which no link sees, then the atom is deleted.
+use mathlib.Core.Path.{◌≡◌, refl, sym, ap, ◌∙◌}
+use Prim.Native.Nat.{ℕ, ◌+◌}
+use native.Mathlib.Omega.{arith}
+use borrow.Author.Rules.{rules}
+use borrow.Author.Tests.{lt-ltb, le-ltb}
+use Rattle.model.specs.Configuration.{Config}
+use Rattle.model.specs.Deletion.{graph, remove}
+use Rattle.model.specs.Events.{gone_by, deletion}
+use Rattle.model.specs.Log as Log
+use Rattle.model.specs.Log.{begin, executed, report, quiet, emit_deletion, answer_of}
+use Rattle.model.specs.Calls.{set_stepped, remove_step}
+use Rattle.state.specs.View.{plan_at, config_of}
+use Rattle.state.proofs.Live.{sound_atoms_rise}
+use Rattle.executing.proofs.After.{due_live, sound_stepped}
+use Rattle.stepping.proofs.Answers.{answers}
+use Rattle.executing.proofs.Taken.{delete_fails, delete_goes}
+use Rattle.executing.proofs.delete_atom.Goals as goal
+
+pub find_atom-i-requires : goal.find_atom-i-requires
+find_atom-i-requires c = (c.requires.whole.long, c.requires.whole.few_atoms, sound_atoms_rise c.args.words.now c.args.scalars c.requires.whole.sound)
+
+pub returns-then-scalars-i : goal.returns-then-scalars-i
+returns-then-scalars-i c =
+    let a = c.args in
+    let W = a.words.now in
+    let x = c.find_atom-i in
+    let none = le-ltb x.result a.scalars.atoms c.if-scalars-i.true in (
+      c.failed.ensures.0 ∙ ap (answer_of (config_of W a.scalars)) (sym (delete_fails W a.scalars (plan_at W a.k).id a.id x.result x.ensures none)),
+      c.failed.ensures.1,
+    )
+
+pub succeed-requires : goal.succeed-requires
+succeed-requires c = let a = c.args in due_live a.words.now a.scalars a.k c.requires
+
+pub remove-r-requires : goal.remove-r-requires
+remove-r-requires c =
+    let a = c.args in
+    let r = c.succeed in
+    sound_stepped a.words.now a.scalars a.k c.requires r.new.0 (r.auto.0 ∙ c.requires.whole.long) r.ensures
+
+pub returns : goal.returns
+returns c =
+    let a = c.args in
+    let W = a.words.now in
+    let C : Config = config_of W a.scalars in
+    let i : ℕ = (plan_at W a.k).id in
+    let x = c.find_atom-i in
+    let there = lt-ltb x.result a.scalars.atoms c.if-scalars-i.false in
+    let e = c.succeed.ensures in
+    let r = c.remove-r in
+    let gone : r.result.gone ≡ 0 + gone_by (graph (set_stepped i (remove_step i C))) (deletion a.id) =
+    r.ensures.1.1 ∙ ap (λ (d : Config). gone_by (graph d) (deletion a.id)) e ∙ nothing_more (gone_by (graph (set_stepped i (remove_step i C))) (deletion a.id)) in (
+      answers C r.new.0 r.result.scalars r.result.gone (executed c.plan_id-plan.result Log.done) _
+          (emit_deletion a.id (report (executed i Log.done) (quiet (λ d. set_stepped i (remove_step i d)) (begin C))))
+          (delete_goes W a.scalars i a.id x.result x.ensures there)
+          (ap (λ (n : ℕ). executed n Log.done) c.plan_id-plan.ensures) (r.ensures.1.0 ∙ ap (remove a.id) e) gone,
+      refl,
+    )
+  where
+    nothing_more : (n : ℕ) → n ≡ 0 + n
+    nothing_more n = omega arith

@@ -1,0 +1,42 @@
+-- The first step decides, then the subgoal.
+use mathlib.Core.Path.{sym, ap, ◌∙◌}
+use mathlib.Core.List.{List}
+use borrow.Author.Rules.{rules}
+use borrow.Author.Tests.{not-true, not-false}
+use Rattle.model.specs.declared.Row.{Row}
+use Rattle.model.specs.Configuration.{Plan, Config, remainder}
+use Rattle.model.specs.Log.{begin, answer_of}
+use Rattle.program.specs.Rows.{rows_of}
+use Rattle.state.specs.View.{plan_at, config_of}
+use Rattle.executing.proofs.Taken.{plan_empty, plan_held, plan_steps}
+use Rattle.executing.proofs.execute_plan.Goals as goal
+
+pub returns-then-not-x : goal.returns-then-not-x
+returns-then-not-x c =
+    let a = c.args in
+    let C : Config = config_of a.words.now a.scalars in
+    let q : Plan = plan_at a.words.now a.k in
+    let R : List Row = remainder (rows_of a.program.now) q in
+    let x = c.next_step-x in
+    let r = c.pass_over in
+    (r.ensures.0 ∙ ap (answer_of C) (sym (plan_empty q R (begin C) x.result.row x.result.found x.ensures (not-true x.result.found c.if-not-x.true))), λ z. absurd (z r.ensures.1))
+
+pub returns-then-plan_subgoal-ne0 : goal.returns-then-plan_subgoal-ne0
+returns-then-plan_subgoal-ne0 c =
+    let a = c.args in
+    let C : Config = config_of a.words.now a.scalars in
+    let q : Plan = plan_at a.words.now a.k in
+    let R : List Row = remainder (rows_of a.program.now) q in
+    let x = c.next_step-x in
+    let r = c.pass_over-then-plan_subgoal-ne0 in
+    (r.ensures.0 ∙ ap (answer_of C) (sym (plan_held q R (begin C) x.result.row x.result.found x.ensures (not-false x.result.found c.if-not-x.false) (λ z. c.if-plan_subgoal-ne0.true (c.plan_subgoal.ensures ∙ z)))), λ z. absurd (z r.ensures.1))
+
+pub returns : goal.returns
+returns c =
+    let a = c.args in
+    let C : Config = config_of a.words.now a.scalars in
+    let q : Plan = plan_at a.words.now a.k in
+    let R : List Row = remainder (rows_of a.program.now) q in
+    let x = c.next_step-x in
+    let r = c.take_step in
+    (r.ensures.0 ∙ ap (answer_of C) (sym (plan_steps q R (begin C) x.result.row x.result.found x.ensures (not-false x.result.found c.if-not-x.false) (sym c.plan_subgoal.ensures ∙ c.if-plan_subgoal-ne0.false))), r.ensures.1)

@@ -1,0 +1,8 @@
+-- Both tests.
+use borrow.Author.Rules.{rules}
+use Rattle.formed_plans.specs.Plans.{plan_fits}
+use Rattle.formed_plans.proofs.plan_fits.Goals as goal
+
+pub returns : goal.returns
+unfolding plan_fits
+returns c = rw (c.node_formed.ensures, c.plan_formed.ensures)

@@ -1,0 +1,40 @@
+-- The work on what is well formed, and what it leaves settled in the lent slices.
+use mathlib.Core.Path.{sym, ap, ◌∙◌, subst}
+use Rattle.model.specs.Claims.{to_delete, reply}
+use Rattle.model.specs.Log.{called}
+use Rattle.state.specs.declared.Scalars.{Scalars}
+use Rattle.state.specs.View.{config_of}
+use Rattle.in_place.specs.declared.Change.{Change}
+use Rattle.in_place.specs.Given.{given_rows, Admitted}
+use Rattle.host.proofs.Settled.{long, trusted_call_after}
+use borrow.Author.Rules.{rules}
+use Rattle.host.proofs.jq_trusted_delete.Goals as goal
+
+pub scalars_of-requires : goal.scalars_of-requires
+scalars_of-requires c =
+    let a = c.args in
+    (long a.words.now a.scalars.now a.report.now c.requires.lengths).1
+
+pub delete_admitted-c-requires : goal.delete_admitted-c-requires
+delete_admitted-c-requires c =
+    let a = c.args in
+    subst (Admitted a.program.now a.words.now) (sym c.scalars_of.ensures) c.requires.well
+
+pub settle_change-requires : goal.settle_change-requires
+settle_change-requires c =
+    let a = c.args in
+    let h = long a.words.now a.scalars.now a.report.now c.requires.lengths in
+    (h.1, h.2)
+
+pub returns : goal.returns
+returns c =
+    let a = c.args in
+    let r = c.delete_admitted-c in
+    let e = c.scalars_of.ensures in
+    let t = c.settle_change.ensures in
+    let k = to_delete (given_rows a.program.now) a.id in
+    trusted_call_after a.words.now a.scalars.now a.report.now r.new.1.0 _ _
+    r.result.scalars r.result.number r.result.made r.result.gone called c.requires.lengths r.auto.1.0
+    t.0 t.1.0
+    (λ n. (r.ensures.1.0 n).0) (λ n. ap (λ (x : Change). x.scalars) (r.ensures.1.0 n).1 ∙ e)
+    a.program.now r.ensures.1.1 _ t.1.1 k (r.ensures.0 ∙ ap (λ (x : Scalars). reply k (config_of a.words.now x)) e)

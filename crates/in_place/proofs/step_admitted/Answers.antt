@@ -1,0 +1,66 @@
+-- Each way of step, with what is well formed kept.
+use mathlib.Core.Path.{refl, ◌∙◌}
+use native.Mathlib.Omega.{arith}
+use Rattle.model.specs.Claims.{to_step, work}
+use Rattle.state.specs.View.{config_of}
+use Rattle.running.proofs.Turns.{was_refused, was_taken, next_rises}
+use Rattle.in_place.specs.Given.{given_rows}
+use Rattle.in_place.proofs.Stepped.{step_6_phase, step_6_waiting, step_rows, in_turn, step_refuses, step_done}
+use Rattle.in_place.proofs.Stays.{call_stays}
+use borrow.Author.Rules.{rules}
+use Rattle.in_place.proofs.step_admitted.Goals as goal
+
+pub returns-then-scalars-eq0 : goal.returns-then-scalars-eq0
+unfolding work
+returns-then-scalars-eq0 c =
+    let a = c.args in
+    call_stays a.program.now a.words.now a.scalars c.requires _ refl
+    (to_step (given_rows a.program.now)) refl refl
+    (step_refuses a.words.now _ a.scalars _ 6 _ refl c.refuse_step.ensures
+    (step_6_phase a.program.now (config_of a.words.now a.scalars) c.requires.well c.if-scalars-eq0.true))
+
+pub returns-then-scalars-ne0 : goal.returns-then-scalars-ne0
+unfolding work
+returns-then-scalars-ne0 c =
+    let a = c.args in
+    call_stays a.program.now a.words.now a.scalars c.requires _ refl
+    (to_step (given_rows a.program.now)) refl refl
+    (step_refuses a.words.now _ a.scalars _ 6 _ refl c.refuse_step-then-scalars-ne0.ensures
+    (step_6_waiting a.program.now (config_of a.words.now a.scalars) c.requires.well c.if-scalars-ne0.true))
+
+pub advance-p-requires : goal.advance-p-requires
+advance-p-requires c =
+    let a = c.args in
+    in_turn a.program.now a.words.now a.scalars c.requires.sized c.requires.well c.if-scalars-eq0.false c.if-scalars-ne0.false
+
+pub returns-then-p-ne0 : goal.returns-then-p-ne0
+unfolding work
+returns-then-p-ne0 c =
+    let a = c.args in
+    let p = c.advance-p in
+    let no = c.if-p-ne0.true in
+    let told = was_refused a.program.now a.words.now p.new.1.0 a.scalars p.result p.ensures.0 no in
+    call_stays a.program.now a.words.now a.scalars c.requires _ p.auto.1.0
+    (to_step (given_rows a.program.now)) refl refl
+    (step_refuses a.words.now _ a.scalars _ _ _ (p.ensures.1 no) c.refuse_step-then-p-ne0.ensures
+    (step_rows a.program.now (config_of a.words.now a.scalars) c.requires.well ∙ told))
+
+pub overflow_sub-made : goal.overflow_sub-made
+overflow_sub-made c =
+    let a = c.args in
+    let p = c.advance-p in
+    let t = was_taken a.program.now a.words.now p.new.1.0 a.scalars p.result p.ensures.0 c.if-p-ne0.false in
+    let h = next_rises a.program.now a.words.now p.new.1.0 a.scalars p.result p.ensures.0 t in
+    omega arith
+
+pub returns : goal.returns
+unfolding work
+returns c =
+    let a = c.args in
+    let p = c.advance-p in
+    call_stays a.program.now a.words.now a.scalars c.requires _ p.auto.1.0
+    (to_step (given_rows a.program.now)) refl refl (
+      step_done a.program.now a.words.now a.scalars c.requires.well
+          p.new.1.0 p.result c.if-p-ne0.false p.ensures.0,
+      λ z. absurd (z refl),
+    )

@@ -1,0 +1,18 @@
+-- Nothing is noted, or the failure is.
+use borrow.Author.Rules.{rules}
+use native.Mathlib.Omega.{arith}
+use mathlib.Core.Path.{◌≡◌, refl}
+use mathlib.Core.Logic.{inl, inr}
+use Rattle.matching.proofs.learn.Goals as goal
+
+pub note-requires : goal.note-requires
+note-requires c =
+    let p = c.requires in
+    let h = c.if-hint-eq1.true in
+    (p.0, p.1 (λ (z : _ ≡ 0). omega (arith, h, z)), p.2)
+
+pub returns-then-hint-eq1 : goal.returns-then-hint-eq1
+returns-then-hint-eq1 c = (refl, inr c.note.ensures)
+
+pub returns-else-hint-eq1 : goal.returns-else-hint-eq1
+returns-else-hint-eq1 c = (refl, inl refl)

@@ -1,0 +1,6 @@
+-- The same test, operand by operand.
+use borrow.Author.Rules.{rules}
+use Rattle.matching.proofs.same_row.Goals as goal
+
+pub returns : goal.returns
+returns c = cc

@@ -1,0 +1,25 @@
+use borrow.Author.Rules.{rules}
+use mathlib.Core.Path.{◌≡◌, sym}
+use lib.ListN.{length}
+use Rattle.state.proofs.View.{values_long}
+use Rattle.matching.proofs.Plans.{agreed_values}
+use Rattle.matching.proofs.values_agree.Goals as goal
+use Rattle.matching.proofs.values_agree.Goals.{Start}
+
+long : (s : Start) → length s.args.t3 ≡ 8
+long s = search rules
+
+pub returns : goal.returns
+returns c =
+    let a = c.args in
+    λ e. agreed_values _ a.t3 (values_long a.words.now a.k c.requires.0 c.requires.1) (long c.before.before.before.before.before.before.before.before.before)
+    (rw (
+      sym c.plan_value.ensures,
+      sym c.plan_value-2.ensures,
+      sym c.plan_value-3.ensures,
+      sym c.plan_value-4.ensures,
+      sym c.plan_value-5.ensures,
+      sym c.plan_value-6.ensures,
+      sym c.plan_value-7.ensures,
+      sym c.plan_value-8.ensures,
+    ) e)

@@ -1,0 +1,6 @@
+-- `tables_hold` promises what proofs/Rows computes.
+use Rattle.model.proofs.Rows.{keys_hold, cases_hold}
+use Rattle.model.proofs.tables_hold.Goals as goal
+
+pub returns : goal.returns
+returns c = (keys_hold, cases_hold)

@@ -1,0 +1,51 @@
+use borrow.Author.Rules.{rules}
+use native.Mathlib.Omega.{arith}
+use mathlib.Core.Logic.{⊎_elim}
+use Prim.Native.Nat.{◌-◌, ◌<◌}
+use Rattle.nogoods.proofs.place.Goals as goal
+
+pub overflow_mul-sum : goal.overflow_mul-sum
+overflow_mul-sum c = let h = c.loop-k.invariant in omega arith
+
+pub overflow_add-sum : goal.overflow_add-sum
+overflow_add-sum c = let h = c.loop-k.invariant in omega arith
+
+pub loop-k-preserved : goal.loop-k-preserved
+loop-k-preserved c =
+    ⊎_elim
+    (λ w. let e = w.1 in omega arith)
+    (λ w. let e = w.1 in let h = c.loop-k.invariant in omega arith)
+    c.if-bits-eq1.branch
+
+pub overflow_mul-result-2 : goal.overflow_mul-result-2
+overflow_mul-result-2 c = let h = c.loop-k.invariant in omega arith
+
+pub overflow_cast-sum : goal.overflow_cast-sum
+overflow_cast-sum c = omega arith
+
+pub loop-k-init : goal.loop-k-init
+loop-k-init c = omega arith
+
+pub offset_bounds-values-k : goal.offset_bounds-values-k
+offset_bounds-values-k c = omega arith
+
+pub bounds-values-k : goal.bounds-values-k
+bounds-values-k c = omega arith
+
+pub overflow_add-k : goal.overflow_add-k
+overflow_add-k c = omega arith
+
+pub loop-k-smaller : goal.loop-k-smaller
+loop-k-smaller c = omega arith
+
+pub overflow_mul-result : goal.overflow_mul-result
+overflow_mul-result c = omega arith
+
+pub overflow_cast-result : goal.overflow_cast-result
+overflow_cast-result c = omega arith
+
+pub overflow_add-result : goal.overflow_add-result
+overflow_add-result c = omega arith
+
+pub returns : goal.returns
+returns c = omega arith

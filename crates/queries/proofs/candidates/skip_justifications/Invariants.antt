@@ -1,0 +1,16 @@
+-- The loop's invariant: no candidate before c fits.
+use borrow.Author.Rules.{rules}
+use mathlib.Core.Path.{sym, ◌∙◌}
+use Prim.Native.Nat.{◌-◌, ◌/◌, ◌%◌}
+use native.Mathlib.Omega.{arith}
+use Rattle.state.specs.View.{plan_at}
+use Rattle.queries.specs.declared.Wanted.{Wanted}
+use Rattle.queries.specs.Answers.{justification_candidate, Skipped}
+use Rattle.queries.proofs.Skips.{other_plan, no_such_atom, other_atom, past_last, skip_none, skip_one, skip_to}
+use Rattle.queries.proofs.candidates.skip_justifications.Given as goal
+
+abbrev pub invariant-loop-c : goal.invariant-loop-c
+invariant-loop-c l = (b : Wanted) → Skipped (λ k. justification_candidate (plan_at l.words (k / 4)) (k % 4)) l.i l.a b l.from l.c
+
+abbrev pub decreases-loop-c : goal.decreases-loop-c
+decreases-loop-c l = l.n - l.c

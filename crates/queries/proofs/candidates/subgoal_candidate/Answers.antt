@@ -1,0 +1,6 @@
+-- A subgoal of 0 is none.
+use borrow.Author.Rules.{rules}
+use Rattle.queries.proofs.candidates.subgoal_candidate.Goals as goal
+
+pub returns : goal.returns
+returns c = rw (← c.plan_id-i.ensures, ← c.plan_subgoal-a.ensures)

@@ -1,0 +1,8 @@
+-- The same test, operand by operand.
+use borrow.Author.Rules.{rules}
+use Rattle.queries.specs.Answers.{closed}
+use Rattle.queries.proofs.closes.Goals as goal
+
+pub returns : goal.returns
+unfolding closed
+returns c = cc

@@ -1,0 +1,5 @@
+use borrow.Author.Rules.{rules}
+use Rattle.sensing.proofs.is_ceiling.Goals as goal
+
+pub returns : goal.returns
+returns c = cc

@@ -1,0 +1,6 @@
+-- Four numbers of a record.
+use borrow.Author.Rules.{rules}
+use Rattle.sensing.proofs.reading_at.Goals as goal
+
+pub returns : goal.returns
+returns c = cc

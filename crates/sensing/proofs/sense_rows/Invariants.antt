@@ -1,0 +1,17 @@
+-- What is left of sense is the rows from k on, after a log that the words show.
+use mathlib.Core.Path.{◌≡◌, sym, ◌∙◌}
+use Prim.Native.Nat.{◌-◌, ◌*◌, ◌/◌, ◌≤◌}
+use native.Mathlib.Omega.{arith}
+use lib.ListN.{length}
+use borrow.Author.Rules.{rules}
+use Rattle.program.specs.Rows.{rows_of}
+use Rattle.state.specs.View.{config_of}
+use Rattle.sensing.specs.Sensing.{reading_at}
+use Rattle.sensing.proofs.Readings.{SensingAt, at_first, at_barred, at_next, at_end}
+use Rattle.sensing.proofs.sense_rows.Given as goal
+
+abbrev pub invariant-loop-k : goal.invariant-loop-k
+invariant-loop-k l = SensingAt (rows_of l.program) l.rows l.n (config_of l.initial.words l.initial.s) l.k l.words l.s l.gone × (l.gone ≤ l.k * 320) × (l.n ≤ 64) × (length l.initial.words ≡ 2432) × (l.k ≤ l.n)
+
+abbrev pub decreases-loop-k : goal.decreases-loop-k
+decreases-loop-k l = l.n - l.k

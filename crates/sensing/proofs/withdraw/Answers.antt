@@ -1,0 +1,67 @@
+use mathlib.Core.Path.{◌≡◌, sym, ap, ◌∙◌}
+use mathlib.Core.Bool.{true}
+use Prim.Native.Nat.{ℕ, ◌+◌, ◌-◌, ◌<◌, ◌≤◌}
+use native.Mathlib.Omega.{arith}
+use lib.ListN.{length}
+use borrow.Author.Rules.{rules}
+use Rattle.state.specs.View.{atom_at, config_of, SoundWords}
+use Rattle.model.specs.declared.Atom.{Atom}
+use Rattle.model.specs.Deletion.{graph, remove as removed}
+use Rattle.model.specs.Events.{gone_by, deletion}
+use Rattle.model.specs.Configuration.{equal_to}
+use Rattle.sensing.proofs.Withdrawals.{Withdrawing, withdrawing_first, withdrawing_on, withdrawing_take, withdrawing_end, fewer}
+use Rattle.deletion.proofs.Sound.{counts_after}
+use Rattle.sensing.proofs.withdraw.Goals as goal
+
+pub loop-k-init : goal.loop-k-init
+loop-k-init c = let r = c.requires in (withdrawing_first _ _ _ _ _ r, omega (arith, r.whole.few_atoms, r.whole.few_plans), r.whole.long)
+
+pub is_equal-requires : goal.is_equal-requires
+is_equal-requires c = let i = c.loop-k.invariant.0 in (i.ready.whole.long, omega (arith, i.ready.whole.few_atoms))
+
+pub atom_at-x-requires : goal.atom_at-x-requires
+atom_at-x-requires c = let i = c.loop-k.invariant.0 in (i.ready.whole.long, omega (arith, i.ready.whole.few_atoms))
+
+pub remove-r-requires : goal.remove-r-requires
+remove-r-requires c = let i = c.loop-k.invariant.0 in i.ready.whole
+
+pub overflow_add-gone : goal.overflow_add-gone
+overflow_add-gone c =
+    let b = at-loop c in
+    let z = counts_after b.loop.words c.remove-r.new.0 b.loop.s c.remove-r.result.scalars (id_of c) (left c) in
+    let e = counted c in
+    omega (arith, b.loop.inv.0.sum, b.loop.inv.1)
+
+pub loop-k-smaller-then-is_equal : goal.loop-k-smaller-then-is_equal
+loop-k-smaller-then-is_equal c =
+    let b = at-loop c in
+    let f = fewer b.before.before.args.p b.before.before.args.a b.before.before.args.b (config_of b.before.before.args.words.now b.before.before.args.scalars) (b.before.before.args.scalars.atoms + b.before.before.args.scalars.plans) b.loop.words b.loop.s c.remove-r.new.0 c.remove-r.result.scalars b.loop.gone b.loop.k c.remove-r.result.gone b.loop.inv.0 (there c) (equal c) (whole c) (left c) (counted c) in
+    omega arith
+
+pub loop-k-preserved-then-is_equal : goal.loop-k-preserved-then-is_equal
+loop-k-preserved-then-is_equal c =
+    let b = at-loop c in
+    (withdrawing_take b.before.before.args.p b.before.before.args.a b.before.before.args.b (config_of b.before.before.args.words.now b.before.before.args.scalars) (b.before.before.args.scalars.atoms + b.before.before.args.scalars.plans) b.loop.words b.loop.s c.remove-r.new.0 c.remove-r.result.scalars b.loop.gone b.loop.k c.remove-r.result.gone b.loop.inv.0 (there c) (equal c) (whole c) (left c) (counted c), b.loop.inv.1, b.loop.inv.2)
+
+pub overflow_add-k : goal.overflow_add-k
+overflow_add-k c = let i = c.loop-k.invariant.0 in omega (arith, i.ready.whole.few_atoms, i.inside)
+
+pub pass_unequal-k-requires : goal.pass_unequal-k-requires
+pass_unequal-k-requires c = let i = c.loop-k.invariant.0 in let h = c.loop-k-test.true in (i.ready.whole.long, omega (arith, h), i.ready.whole.few_atoms)
+
+pub loop-k-smaller : goal.loop-k-smaller
+loop-k-smaller c = let h = c.loop-k-test.true in let e = c.pass_unequal-k.ensures in omega (arith, h, e.0, e.1)
+
+pub loop-k-preserved : goal.loop-k-preserved
+loop-k-preserved c =
+    let l = c.loop-k in
+    let i = l.invariant in
+    let h = c.loop-k-test.true in
+    let e = c.pass_unequal-k.ensures in
+    (withdrawing_on _ _ _ _ _ l.words l.s l.gone l.k c.pass_unequal-k.result i.0 (omega (arith, h)) (sym c.is_equal.ensures ∙ c.if-is_equal.false) e.0 e.1 e.2, i.1, i.2)
+
+pub shape_of-words : goal.shape_of-words
+shape_of-words c = let i = c.loop-k.invariant in i.0.ready.whole.long ∙ sym i.2
+
+pub returns : goal.returns
+returns c = (withdrawing_end _ _ _ _ _ _ _ _ _ c.loop-k.invariant.0 (omega arith), (c.loop-k.invariant.0.ready, omega (arith, c.loop-k.invariant.0.sum, c.loop-k.invariant.1)))

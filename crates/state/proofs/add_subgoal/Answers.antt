@@ -1,0 +1,17 @@
+-- The atom is made first, then linked.
+use mathlib.Core.Path.{◌≡◌, ◌∙◌}
+use lib.ListN.{length}
+use Rattle.state.specs.View.{config_of, atom_counted}
+use Rattle.model.specs.Configuration.{add_atom}
+use Rattle.state.proofs.Changed.{subgoal_linked}
+use borrow.Author.Rules.{rules}
+use Rattle.state.proofs.add_subgoal.Goals as goal
+
+pub returns : goal.returns
+returns c =
+    let a = c.args in
+    let m = c.append_atom-r in
+    let X = m.new.0 in
+    let made : config_of X (atom_counted a.scalars) ≡ add_atom a.p a.a a.b (config_of a.words.now a.scalars) = rw m.ensures.0 at m.ensures.1 in
+    let long : length X ≡ 2432 = m.auto.0 ∙ c.requires.0.long in
+    (m.ensures.0, rw (m.ensures.0, c.put_plan_word.ensures) (subgoal_linked a.words.now X a.scalars a.k a.p a.a a.b c.requires.0 c.requires.1 long made))

@@ -1,0 +1,16 @@
+use borrow.Author.Rules.{rules}
+use mathlib.Core.Path.{◌≡◌, refl}
+use mathlib.Core.Bool.{Bool, true, false}
+use Prim.Native.Nat.{ℕ, ◌+◌, ◌-◌, ◌<◌, ◌≤◌}
+use native.Mathlib.Omega.{arith}
+use lib.Dec.{ltb}
+use borrow.Author.Tests.{ltb-true, ltb-false}
+use Rattle.model.specs.Configuration.{equal_to}
+use Rattle.state.specs.View.{atom_at}
+use Rattle.state.proofs.pass_unequal.Given as goal
+
+abbrev pub invariant-loop-k : goal.invariant-loop-k
+invariant-loop-k l = (l.from ≤ l.k) × (l.k ≤ l.n) × ((i : ℕ) → l.from ≤ i → i < l.k → equal_to l.p l.a l.b (atom_at l.words i) ≡ false)
+
+abbrev pub decreases-loop-k : goal.decreases-loop-k
+decreases-loop-k l = l.n - l.k

@@ -1,0 +1,6 @@
+use borrow.Author.Rules.{rules}
+use Rattle.state.proofs.Flags.{sets_flag}
+use Rattle.state.proofs.with_flag.Goals as goal
+
+pub returns : goal.returns
+returns c = sets_flag c.args.f c.args.flags c.requires.0 c.requires.1
