@@ -49,8 +49,8 @@ owner_of (q ∷ qs) l h = ⊎_elim
     (λ k. let r = owner_of qs l k in (r.0, later r.1, r.2))
     (in_append (links_of q) (links qs) h)
 
-pub in_links : {qs : List Node} (l : Link) {q : Node} → In q qs → Of q l → In l (links qs)
-in_links l {q} (first {y = p} {l = qs} e) o = in_left (links qs) (in_of p l (subst (λ (r : Node). Of r l) e o))
+pub in_links : {q : Node} {qs : List Node} (l : Link) → In q qs → Of q l → In l (links qs)
+in_links {q} l (first {y = p} {l = qs} e) o = in_left (links qs) (in_of p l (subst (λ (r : Node). Of r l) e o))
 in_links l (later {y = p} h) o = in_right (links_of p) (in_links l h o)
 
 -- ids rise along the links of each plan

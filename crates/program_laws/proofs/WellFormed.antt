@@ -66,12 +66,12 @@ ColumnsSmall (some v) = (k : ℕ) → get_or v k 0 ≤ 65544
 small_after : (x : ℕ) (o : Option (List ℕ)) → x ≤ 65544 → ColumnsSmall o → ColumnsSmall (after x o)
 unfolding after
 small_after x none h s = tt
-small_after x (some v) h s = λ k. elim k [ zero ↦ h | suc j ↦ s j ]
+small_after x (some v) h s = λ k. elim k as (λ (j : ℕ). get_or (x ∷ v) j 0 ≤ 65544) [ zero ↦ h | suc j ↦ s j ]
 
 small_last : (r : Read) → IntSmall r → ColumnsSmall (last_column r)
 unfolding last_column
 small_last unreadable h = tt
-small_last (number v []) h = λ k. elim k [ zero ↦ h | suc j ↦ omega arith ]
+small_last (number v []) h = λ k. elim k as (λ (j : ℕ). get_or (v ∷ []) j 0 ≤ 65544) [ zero ↦ h | suc j ↦ omega arith ]
 small_last (number v (c ∷ cs)) h = tt
 
 small_column : (f : List ℕ → Option (List ℕ)) (r : Read) → ((cs : List ℕ) → ColumnsSmall (f cs)) → IntSmall r → ColumnsSmall (column f r)

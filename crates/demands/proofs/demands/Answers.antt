@@ -7,4 +7,10 @@ use Rattle.demands.proofs.Runs.{run_is_its_steps}
 use Rattle.demands.proofs.demands.Goals as goal
 
 pub returns : goal.returns
-returns c = (demand_one loads_rightly, (demand_two, (demand_three, (keeps_well_formed, run_is_its_steps))))
+returns c = record {
+  one = demand_one loads_rightly;
+  two = demand_two;
+  three = demand_three;
+  well_formed = keeps_well_formed;
+  run = run_is_its_steps;
+}

@@ -4,4 +4,4 @@ use Rattle.graph_laws.proofs.Deletion.{reached_exactly, deletes_exactly}
 use Rattle.graph_laws.proofs.deletes_exactly.Goals as goal
 
 pub returns : goal.returns
-returns c = (refl, (reached_exactly, deletes_exactly))
+returns c = record { unchanged = refl; reached = reached_exactly; deleted = deletes_exactly }

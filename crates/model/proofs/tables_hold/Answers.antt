@@ -3,4 +3,4 @@ use Rattle.model.proofs.Rows.{keys_hold, cases_hold}
 use Rattle.model.proofs.tables_hold.Goals as goal
 
 pub returns : goal.returns
-returns c = (keys_hold, cases_hold)
+returns c = record { keys = keys_hold; cases = cases_hold }

@@ -4,4 +4,4 @@ use Rattle.program_laws.proofs.Places.{loads_rightly}
 use Rattle.program_laws.proofs.loads_exactly.Goals as goal
 
 pub returns : goal.returns
-returns c = (well_formed_loads, loads_rightly)
+returns c = record { well_formed = well_formed_loads; places = loads_rightly }
