@@ -2,7 +2,7 @@
 -- The first line is what the last call answered: number, made, gone, and what a step did (`did_numbers`), or after a run the steps taken
 -- and why it stopped (`stop_number`). The second line: phase, cycle, next id, waiting. Then the live instances by id: an atom's kind 1,
 -- id, p, a, b and 0; a plan's kind 2, id, set, rule, steps left, subgoal, flags and justifications.
-use Rattle.std.specs.Prelude.{ℕ, Bool, List, [], ◌∷◌, ◌++◌, map}
+use Rattle.std.specs.Prelude.{ℕ, Bool, List, [], ◌∷◌, map}
 use Prim.Native.String.{String}
 use Prim.Native.String as S
 use Rattle.lists.specs.Lists as Lists

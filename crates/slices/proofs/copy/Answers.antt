@@ -1,9 +1,7 @@
-use mathlib.Core.Path.{◌≡◌, refl, sym, ◌∙◌}
-use Prim.Native.Nat.{◌-◌}
+use mathlib.Core.Path.{refl, sym, ◌∙◌}
 use native.Mathlib.Omega.{arith}
-use lib.ListN.{length, get_or, length-set}
-use borrow.Author.Rules.{rules}
-use Rattle.slices.proofs.Copied.{Copied, copied_none, copied_one, copied_all}
+use lib.ListN.{get_or, length-set}
+use Rattle.slices.proofs.Copied.{copied_none, copied_one, copied_all}
 use Rattle.slices.proofs.copy.Goals as goal
 
 pub loop-i-init : goal.loop-i-init

@@ -1,10 +1,8 @@
 -- What stands below i is copied.
-use mathlib.Core.Path.{◌≡◌, refl, sym, ◌∙◌}
+use mathlib.Core.Path.{◌≡◌}
 use Prim.Native.Nat.{◌-◌}
-use native.Mathlib.Omega.{arith}
-use lib.ListN.{length, get_or, length-set}
-use borrow.Author.Rules.{rules}
-use Rattle.slices.proofs.Copied.{Copied, copied_none, copied_one, copied_all}
+use lib.ListN.{length}
+use Rattle.slices.proofs.Copied.{Copied}
 use Rattle.slices.proofs.copy.Given as goal
 
 abbrev pub invariant-loop-i : goal.invariant-loop-i
