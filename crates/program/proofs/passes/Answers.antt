@@ -1,5 +1,6 @@
 use borrow.Author.Rules.{rules}
-use mathlib.Core.Path.{◌≡◌, refl, sym, ◌∙◌}
+use mathlib.Core.Path.{◌≡◌, refl, sym, ap, ◌∙◌}
+use mathlib.Core.Bool.{not}
 use Prim.Native.Nat.{◌-◌, ◌/◌}
 use lib.ListN.{length}
 use Rattle.rows.specs.Scanning.{whole as scanned}
@@ -11,12 +12,12 @@ pub loop-k-init : goal.loop-k-init
 loop-k-init c = (checks_begin _ _ c.requires c.at_first-s.ensures, refl)
 
 pub returns-then-not-in_range : goal.returns-then-not-in_range
-returns-then-not-in_range c = outside c.loop-k.invariant.0 c.loop-k-test.true c.row_at-r.ensures c.in_range.ensures c.if-not-in_range.true
+returns-then-not-in_range c = outside c.loop-k.invariant.0 c.loop-k-test.true c.row_at-r.ensures c.in_range.ensures (ap not c.if-not-in_range.true)
 
 pub take_row-v-requires : goal.take_row-v-requires
 take_row-v-requires c =
     let inv = c.loop-k.invariant in
-    (inv.0.small, inv.1, predicate_small _ c.in_range.ensures c.if-not-in_range.false)
+    (inv.0.small, inv.1, predicate_small _ c.in_range.ensures (ap not c.if-not-in_range.false))
 
 pub returns-then-v-ne0 : goal.returns-then-v-ne0
 returns-then-v-ne0 c = row_refused c.loop-k.invariant.0 c.loop-k-test.true c.row_at-r.ensures _ _ c.take_row-v.ensures c.if-v-ne0.true
@@ -25,8 +26,8 @@ pub loop-k-preserved : goal.loop-k-preserved
 loop-k-preserved c =
     let inv = c.loop-k.invariant in (
       row_checked inv.0 c.loop-k-test.true c.row_at-r.ensures _ _ c.take_row-v.ensures c.in_range.ensures
-          c.if-not-in_range.false c.if-v-ne0.false,
-      c.take_row-v.auto.1.0 ∙ inv.1,
+          (ap not c.if-not-in_range.false) c.if-v-ne0.false,
+      c.take_row-v.auto.ceilings ∙ inv.1,
     )
 
 pub returns : goal.returns

@@ -24,23 +24,17 @@ loop-k-preserved c =
     let test = c.loop-k-test.true in
     let loop = c.loop-k in
     let few = c.if-n-gt512.false in
-    let sure = c.quick_row-q.ensures.1 (not-false _ c.if-not-q.false) in (
+    let sure = c.quick_row-q.ensures.passed (not-false _ c.if-not-q.false) in (
       row_sure loop.invariant.0 test c.row_at-r.ensures _ sure.0 (sure.1 loop.k (omega (arith, test, few))),
-      c.quick_row-q.ensures.0,
-      c.quick_row-q.auto.1.1.0 ∙ loop.invariant.2,
+      c.quick_row-q.ensures.long,
+      c.quick_row-q.auto.ceilings ∙ loop.invariant.2,
     )
 
 pub returns : goal.returns
 returns c = λ e. sym (checks_end c.loop-k.invariant.0 c.loop-k-test.false c.lacking.ensures) ∙ e
-
-pub returns-then-n-gt512 : goal.returns-then-n-gt512
-returns-then-n-gt512 c = absurd (false≢true e)
 
 pub row_at-r-requires : goal.row_at-r-requires
 row_at-r-requires c = search (rules, row_inside, c.loop-k.invariant.0)
 
 pub slice_bounds-quick_row-end : goal.slice_bounds-quick_row-end
 slice_bounds-quick_row-end c = sym c.loop-k.invariant.2
-
-pub returns-then-not-q : goal.returns-then-not-q
-returns-then-not-q c = absurd (false≢true e)

@@ -4,11 +4,10 @@ use native.Mathlib.Omega.{arith}
 use borrow.Author.Rules.{rules}
 use Rattle.spans.proofs.Spans.{Halved, halved_all, halved_up, halved_down, halved_bound}
 use Rattle.spans.proofs.first_from.Goals as goal
-use Rattle.spans.proofs.first_from.Goals.{At-loop-low}
 
 -- the row that is looked at
-abbrev middle : At-loop-low → ℕ
-middle b = b.loop-low.low + (b.loop-low.high - b.loop-low.low) / 2
+abbrev middle : ℕ → ℕ → ℕ
+middle low high = low + (high - low) / 2
 
 pub loop-low-init : goal.loop-low-init
 loop-low-init c = halved_all _ _ _ _
@@ -16,12 +15,12 @@ loop-low-init c = halved_all _ _ _ _
 pub loop-low-preserved-then-is_before : goal.loop-low-preserved-then-is_before
 loop-low-preserved-then-is_before c =
     let a = c.args in
-    halved_up a.program.now a.set a.rule a.part c.loop-low.low c.loop-low.high (middle c.before.before.before) c.requires (omega arith) (omega arith) (sym c.is_before.ensures ∙ c.if-is_before.true) c.loop-low.invariant
+    halved_up a.program.now a.set a.rule a.part c.loop-low.low c.loop-low.high (middle c.loop-low.low c.loop-low.high) c.requires (omega arith) (omega arith) (sym c.is_before.ensures ∙ c.if-is_before.true) c.loop-low.invariant
 
 pub loop-low-preserved : goal.loop-low-preserved
 loop-low-preserved c =
     let a = c.args in
-    halved_down a.program.now a.set a.rule a.part c.loop-low.low c.loop-low.high (middle c.before.before.before) c.requires (omega arith) (omega arith) (sym c.is_before.ensures ∙ c.if-is_before.false) c.loop-low.invariant
+    halved_down a.program.now a.set a.rule a.part c.loop-low.low c.loop-low.high (middle c.loop-low.low c.loop-low.high) c.requires (omega arith) (omega arith) (sym c.is_before.ensures ∙ c.if-is_before.false) c.loop-low.invariant
 
 pub returns : goal.returns
 returns c = halved_bound _ _ _ _ _ _ (omega arith) c.loop-low.invariant

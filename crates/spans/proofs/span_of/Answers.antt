@@ -8,7 +8,7 @@ returns c =
     let first = c.first_from-from in
     let a = c.args in
     let x = first.ensures in
-    let y = c.part_end-to.ensures in (
-      (bounds_rise a.program.now a.set a.rule a.part first.result c.part_end-to.result x y, y.inside),
-      span_is a.program.now a.set a.rule a.part first.result c.part_end-to.result x y,
-    )
+    let y = c.part_end-to.ensures in record {
+      bounded = (bounds_rise a.program.now a.set a.rule a.part first.result c.part_end-to.result x y, y.inside);
+      from_value = span_is a.program.now a.set a.rule a.part first.result c.part_end-to.result x y;
+    }

@@ -8,10 +8,9 @@ use borrow.Author.Rules.{rules}
 use Rattle.table.specs.Rows.{row, placed}
 use Rattle.table.proofs.Rows.{copy_more, placed_self}
 use Rattle.table.proofs.copy_down.Goals as goal
-use Rattle.table.proofs.copy_down.Goals.{Start}
 
-lower : (c : Start) → c.args.k * c.args.width ≤ c.args.i * c.args.width
-lower c = mul-le-mul_right c.args.width c.requires.0
+lower : (k i w : ℕ) → k ≤ i → k * w ≤ i * w
+lower k i w h = mul-le-mul_right w h
 
 pub returns-then-k-i : goal.returns-then-k-i
 returns-then-k-i c = let a = c.args in rw c.if-k-i.true (placed_self a.width a.words.now a.i)
@@ -20,12 +19,12 @@ pub loop-j-init : goal.loop-j-init
 loop-j-init c = let a = c.args in (search rules, refl, paste-zero a.words.now (a.k * a.width) (row a.width a.words.now a.i))
 
 pub bounds-words-at : goal.bounds-words-at
-bounds-words-at c = let h = lower c.before.before.before.before in search rules
+bounds-words-at c = let h = lower c.args.k c.args.i c.args.width c.requires.0 in search rules
 
 pub loop-j-preserved : goal.loop-j-preserved
 loop-j-preserved c =
     let a = c.args in
-    let h = lower c.before.before.before.before in
+    let h = lower c.args.k c.args.i c.args.width c.requires.0 in
     (search rules, search rules, rw c.loop-j.invariant.2 (copy_more a.width a.words.now a.i (a.k * a.width) c.loop-j.j h (omega arith) (omega arith)))
 
 pub returns : goal.returns

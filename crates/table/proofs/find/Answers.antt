@@ -5,27 +5,26 @@ use lib.ListN.{get_or}
 use borrow.Author.Rules.{rules}
 use Rattle.table.proofs.Rows.{below, found_at, all_lower, all_higher, nowhere}
 use Rattle.table.proofs.find.Goals as goal
-use Rattle.table.proofs.find.Goals.{At-loop-low, In-loop-low}
 
 -- the middle is a record
-abbrev middle : At-loop-low → ℕ
-middle b = b.loop-low.low + (b.loop-low.high - b.loop-low.low) / 2
+abbrev middle : ℕ → ℕ → ℕ
+middle low high = low + (high - low) / 2
 
-within : (c : In-loop-low) → middle c.before * c.args.width + c.args.width ≤ c.args.n * c.args.width
-within c = below (middle c.before) c.args.n c.args.width (omega arith)
+within : (low high n w : ℕ) → low < high → high ≤ n → middle low high * w + w ≤ n * w
+within low high n w h e = below (middle low high) n w (omega arith)
 
 pub bounds-words-middle : goal.bounds-words-middle
-bounds-words-middle c = let h = within c.before in search rules
+bounds-words-middle c = let h = within c.loop-low.low c.loop-low.high c.args.n c.args.width (omega arith) (omega arith) in search rules
 
 pub loop-low-preserved-then-words-middle : goal.loop-low-preserved-then-words-middle
 loop-low-preserved-then-words-middle c =
     let a = c.args in
-    (search rules, search rules, all_lower a.width a.n a.words.now c.requires.0 c.requires.2 (middle c.before.before.before) a.id (omega arith) c.if-words-middle.true, c.loop-low.invariant.3)
+    (search rules, search rules, all_lower a.width a.n a.words.now c.requires.0 c.requires.2 (middle c.loop-low.low c.loop-low.high) a.id (omega arith) c.if-words-middle.true, c.loop-low.invariant.3)
 
 pub loop-low-preserved : goal.loop-low-preserved
 loop-low-preserved c =
     let a = c.args in
-    (search rules, search rules, c.loop-low.invariant.2, all_higher a.width a.n a.words.now c.requires.0 c.requires.2 (middle c.before.before.before) a.id (omega arith) c.if-words-middle.false)
+    (search rules, search rules, c.loop-low.invariant.2, all_higher a.width a.n a.words.now c.requires.0 c.requires.2 (middle c.loop-low.low c.loop-low.high) a.id (omega arith) c.if-words-middle.false)
 
 pub returns-then-n-low : goal.returns-then-n-low
 returns-then-n-low c =

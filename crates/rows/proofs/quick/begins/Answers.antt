@@ -16,6 +16,3 @@ pub returns : goal.returns
 returns c =
     λ e k v d. set_placed (scan_at c.args.s k v d) c.args.r (sym c.lacking.ensures ∙ c.if-lacking.false)
     (ne_eqb _ _ c.if-r-s.false) e
-
-pub returns-then-lacking : goal.returns-then-lacking
-returns-then-lacking c = absurd (false≢true e)

@@ -5,8 +5,8 @@ use Rattle.rows.proofs.quick.begun.Goals as goal
 
 pub returns-then-r-s : goal.returns-then-r-s
 unfolding spec
-returns-then-r-s c = (λ k d. simp c.if-r-s.true, c.requires)
+returns-then-r-s c = record { is = λ k d. simp c.if-r-s.true; long = c.requires }
 
 pub returns : goal.returns
 unfolding spec
-returns c = (λ k d. simp c.if-r-s.false, refl)
+returns c = record { is = λ k d. simp c.if-r-s.false; long = refl }

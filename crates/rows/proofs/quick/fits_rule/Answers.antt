@@ -16,15 +16,3 @@ returns-then-t c = λ e k d. of_step _ _ c.if-r-ne3.false c.if-t-ge8.false c.if-
 
 pub returns : goal.returns
 returns c = λ e k d. of_action _ _ c.if-r-ne3.false c.if-t-ge8.false c.if-t.false _ refl (c.is_action.ensures e)
-
-pub returns-then-t-ge6 : goal.returns-then-t-ge6
-returns-then-t-ge6 c = absurd (false≢true e)
-
-pub returns-then-t-r : goal.returns-then-t-r
-returns-then-t-r c = absurd (false≢true e)
-
-pub returns-then-r-ne3 : goal.returns-then-r-ne3
-returns-then-r-ne3 c = absurd (false≢true e)
-
-pub returns-then-t-ge8 : goal.returns-then-t-ge8
-returns-then-t-ge8 c = absurd (false≢true e)

@@ -14,10 +14,10 @@ returns-then-not-fits_rule c = λ e. absurd (false≢true (sym c.unsure.ensures 
 
 pub counted-place-requires : goal.counted-place-requires
 counted-place-requires c =
-    let f = c.fits_rule.ensures (not-false _ c.if-not-fits_rule.false) 0 [] in
+    let f = c.fits_rule.ensures c.if-not-fits_rule.false 0 [] in
     (c.requires.0, c.requires.1, f.parted, f.part)
 
 pub returns : goal.returns
 returns c =
-    λ e k d. rule_fits _ _ _ c.requires.1 (c.fits_rule.ensures (not-false _ c.if-not-fits_rule.false) k d)
+    λ e k d. rule_fits _ _ _ c.requires.1 (c.fits_rule.ensures c.if-not-fits_rule.false k d)
     (ap (λ (x : List ℕ). scan_at c.counted-place.result (k + 1) x d) c.gives.ensures ∙ c.counted-place.ensures k _ d)

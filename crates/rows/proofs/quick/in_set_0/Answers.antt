@@ -20,7 +20,7 @@ overflow_add-place c = let p = c.requires.0.atoms in omega (arith, p)
 pub returns-then-r-eq41 : goal.returns-then-r-eq41
 returns-then-r-eq41 c =
     λ e k v. rw c.moved-place.ensures
-    (atom_fits _ c.requires.1 (not-false _ c.if-not-r.false) _ k v _ c.if-r-eq41.true (not-false _ c.if-not-r-t.false))
+    (atom_fits _ c.requires.1 c.if-not-r.false _ k v _ c.if-r-eq41.true c.if-not-r-t.false)
 
 pub returns-then-not-is_ceiling : goal.returns-then-not-is_ceiling
 returns-then-not-is_ceiling c = λ e. absurd (false≢true (sym c.unsure-then-not-is_ceiling.ensures ∙ e))
@@ -28,5 +28,5 @@ returns-then-not-is_ceiling c = λ e. absurd (false≢true (sym c.unsure-then-no
 pub returns : goal.returns
 returns c =
     λ e k v. rw c.moved-place.ensures
-    (let x = c.is_ceiling.ensures (not-false _ c.if-not-is_ceiling.false) in ceiling_fits _ c.requires.1
-    (not-false _ c.if-not-r.false) _ k v _ x.0 (x.1 (scan_at c.args.t k v c.args.ceilings.now) refl))
+    (let x = c.is_ceiling.ensures c.if-not-is_ceiling.false in ceiling_fits _ c.requires.1
+    c.if-not-r.false _ k v _ x.0 (x.1 (scan_at c.args.t k v c.args.ceilings.now) refl))

@@ -5,12 +5,3 @@ use Rattle.rows.proofs.quick.is_bounded.Goals as goal
 
 pub returns : goal.returns
 returns c = λ e. record { i = c.if-r-gt65544.false; p = leb-true _ _ e; a = c.if-r-gt65544-2.false; b = c.if-r-gt65544-3.false }
-
-pub returns-then-r-gt65544 : goal.returns-then-r-gt65544
-returns-then-r-gt65544 c = absurd (false≢true e)
-
-pub returns-then-r-gt65544-2 : goal.returns-then-r-gt65544-2
-returns-then-r-gt65544-2 c = absurd (false≢true e)
-
-pub returns-then-r-gt65544-3 : goal.returns-then-r-gt65544-3
-returns-then-r-gt65544-3 c = absurd (false≢true e)

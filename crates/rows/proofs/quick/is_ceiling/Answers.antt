@@ -6,9 +6,3 @@ use Rattle.rows.proofs.quick.is_ceiling.Goals as goal
 
 pub returns : goal.returns
 returns c = λ e. (c.if-r-ne40.false, ceiling_by c.args.r c.args.ceilings.now c.if-r-ne40.false c.if-ceilings-at-ne0.false e)
-
-pub returns-then-r-ne40 : goal.returns-then-r-ne40
-returns-then-r-ne40 c = absurd (false≢true e)
-
-pub returns-then-ceilings-at-ne0 : goal.returns-then-ceilings-at-ne0
-returns-then-ceilings-at-ne0 c = absurd (false≢true e)

@@ -17,9 +17,3 @@ returns-then-r-le12 c = is_state_query c.args.r c.if-r-le10.false c.if-r-le12.tr
 
 pub returns : goal.returns
 returns c = is_cycle_query c.args.r c.if-r-le12.false c.if-r-ne0.false c.if-r-ne9.false
-
-pub returns-then-r-ne0 : goal.returns-then-r-ne0
-returns-then-r-ne0 c = absurd (false≢true e)
-
-pub returns-then-r-ne9 : goal.returns-then-r-ne9
-returns-then-r-ne9 c = absurd (false≢true e)

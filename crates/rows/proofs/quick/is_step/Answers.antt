@@ -11,28 +11,10 @@ returns-then-r-eq35 c = λ e. is_delete_step _ _ c.if-r-eq35.true c.names_instan
 
 pub returns-then-r-le33 : goal.returns-then-r-le33
 returns-then-r-le33 c =
-    is_test_step _ _ c.if-r-lt31.false c.if-r-le33.true (sym c.names_atom.ensures ∙ not-false _ c.if-not-names_atom.false)
+    is_test_step _ _ c.if-r-lt31.false c.if-r-le33.true (sym c.names_atom.ensures ∙ c.if-not-names_atom.false)
     (sym c.is_new-2.ensures ∙ c.if-is_new-2.false) (sym c.is_new-3.ensures ∙ c.if-is_new-3.false)
 
 pub returns : goal.returns
 returns c =
-    is_make_step _ _ c.if-r-le33.false c.if-r-gt36.false c.if-r-eq35.false (sym c.names_atom.ensures ∙ not-false _ c.if-not-names_atom.false)
+    is_make_step _ _ c.if-r-le33.false c.if-r-gt36.false c.if-r-eq35.false (sym c.names_atom.ensures ∙ c.if-not-names_atom.false)
     (sym c.is_new-2.ensures ∙ c.if-is_new-2.false) (sym c.is_new-3.ensures ∙ c.if-is_new-3.false)
-
-pub returns-then-r-lt31 : goal.returns-then-r-lt31
-returns-then-r-lt31 c = absurd (false≢true e)
-
-pub returns-then-r-gt36 : goal.returns-then-r-gt36
-returns-then-r-gt36 c = absurd (false≢true e)
-
-pub returns-then-is_new : goal.returns-then-is_new
-returns-then-is_new c = absurd (false≢true e)
-
-pub returns-then-not-names_atom : goal.returns-then-not-names_atom
-returns-then-not-names_atom c = absurd (false≢true e)
-
-pub returns-then-is_new-2 : goal.returns-then-is_new-2
-returns-then-is_new-2 c = absurd (false≢true e)
-
-pub returns-then-is_new-3 : goal.returns-then-is_new-3
-returns-then-is_new-3 c = absurd (false≢true e)
