@@ -22,7 +22,7 @@ loop-i-preserved-then-not-left-i c =
     let l = c.loop-i in
     let a = c.args in
     let h = c.loop-i-test.true in
-    (omega arith, compacted_gone a.left.now a.words.now l.words l.i l.j (omega arith) (not-true _ c.if-not-left-i.true) l.invariant.1)
+    (omega arith, compacted_gone a.left.now a.words.now l.words l.i l.j (omega arith) c.if-not-left-i.true l.invariant.1)
 
 pub overflow_sub-end : goal.overflow_sub-end
 overflow_sub-end c = let e = c.run_end-end.ensures.0 in omega arith
@@ -51,15 +51,15 @@ loop-i-preserved c =
     let r = c.run_end-end in
     let l = c.loop-i in
     let a = c.args in
-    let first = not-false _ c.if-not-left-i.false in
+    let first = c.if-not-left-i.false in
     let e0 = r.ensures.0 in
     let e1 = r.ensures.1 in
     let s1 = c.requires.1 in
     let s2 = c.requires.2 in
     let n : l.i + (r.result - l.i) ≡ r.result = omega arith in (
       e1,
-      subst (λ (q : ℕ). Compacted a.left.now a.words.now m.new.0 q (l.j + (r.result - l.i))) n
-          (compacted_run a.left.now a.words.now l.words m.new.0 l.i l.j (r.result - l.i) (omega arith) (omega arith) (run_true a.left.now l.i r.result (l.i + (r.result - l.i)) n first r.ensures.2) l.invariant.1 m.ensures),
+      subst (λ (q : ℕ). Compacted a.left.now a.words.now m.new.words q (l.j + (r.result - l.i))) n
+          (compacted_run a.left.now a.words.now l.words m.new.words l.i l.j (r.result - l.i) (omega arith) (omega arith) (run_true a.left.now l.i r.result (l.i + (r.result - l.i)) n first r.ensures.2) l.invariant.1 m.ensures),
     )
 
 pub overflow_cast-result : goal.overflow_cast-result
@@ -75,4 +75,7 @@ returns c =
     let e : l.i ≡ a.atoms = omega arith in
     let k = l.invariant.1 in
     let g = k.count in
-    ((omega arith, k.front ∙ ap (λ (q : ℕ). keep_by a.left.now (atoms_of q a.words.now)) e), λ m. plans_stand a.words.now l.words m k.behind)
+    record {
+      kept = (omega arith, k.front ∙ ap (λ (q : ℕ). keep_by a.left.now (atoms_of q a.words.now)) e);
+      plans = λ m. plans_stand a.words.now l.words m k.behind;
+    }

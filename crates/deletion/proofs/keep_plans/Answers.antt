@@ -15,7 +15,7 @@ returns c =
     let a = c.args in
     let W = a.words.now in
     let k = c.keep in
-    let long : length k.new.0 ≡ length W - plans_at = k.auto.0 ∙ ap length (rest_is plans_at W []) ∙ length-drop plans_at W in (
-      (k.ensures.0, plans_kept W k.new.0 a.plans k.result a.left.now c.requires.0 k.ensures.1),
-      λ n h. atoms_stand W k.new.0 n h c.requires.0 long,
-    )
+    let long : length k.new.words ≡ length W - plans_at = k.auto.words ∙ ap length (rest_is plans_at W []) ∙ length-drop plans_at W in record {
+      kept = (k.ensures.0, plans_kept W k.new.words a.plans k.result a.left.now c.requires.0 k.ensures.1);
+      atoms = λ n h. atoms_stand W k.new.words n h c.requires.0 long;
+    }

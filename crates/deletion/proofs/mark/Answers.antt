@@ -14,7 +14,7 @@ mark_atom-place-requires c =
 pub mark_plan-requires : goal.mark_plan-requires
 mark_plan-requires c =
     let h = c.requires.0 in
-    (h.long, h.few_plans, sound_plans_rise c.args.words.now c.args.scalars h.sound, c.mark_atom-place.auto.1.1.0 ∙ c.requires.1)
+    (h.long, h.few_plans, sound_plans_rise c.args.words.now c.args.scalars h.sound, c.mark_atom-place.auto.left ∙ c.requires.1)
 
 pub loop-i-init : goal.loop-i-init
 loop-i-init c =

@@ -10,7 +10,7 @@ pub loop-k-init : goal.loop-k-init
 loop-k-init c =
     let e = c.move_eights-k in
     let a = c.args in
-    let X = e.new.0 in
+    let X = e.new.words in
     let r = e.result in
     let z : 0 ≡ r - r = omega arith in
     (omega arith, e.ensures.1, subst (λ (q : ℕ). Moved X (r + (a.from - a.to)) r q X) z (moved_none _ _ _))
@@ -59,7 +59,7 @@ loop-k-preserved c =
     let a = c.args in
     let s = c.requires in
     let long = e.ensures.2.long in
-    (omega arith, omega arith, moved_next e.new.0 l.words (a.from - a.to) e.result l.k l.invariant.0 (omega arith) l.invariant.2)
+    (omega arith, omega arith, moved_next e.new.words l.words (a.from - a.to) e.result l.k l.invariant.0 (omega arith) l.invariant.2)
 
 pub shape_of-words : goal.shape_of-words
 shape_of-words c = c.loop-k.invariant.2.long ∙ c.move_eights-k.ensures.2.long
@@ -72,4 +72,4 @@ returns c =
     let r = e.result in
     let n : r + (l.k - r) - a.to ≡ a.n = omega arith in
     subst (λ (q : ℕ). Moved a.words.now a.from a.to q l.words) n
-    (moved_on a.words.now e.new.0 l.words a.from a.to r (l.k - r) c.requires.0 e.ensures.0 e.ensures.2 l.invariant.2)
+    (moved_on a.words.now e.new.words l.words a.from a.to r (l.k - r) c.requires.0 e.ensures.0 e.ensures.2 l.invariant.2)

@@ -21,7 +21,7 @@ loop-k-preserved c =
     let t = c.loop-k-test in
     let a = c.args in
     let m = c.move_eight.ensures in
-    (omega arith, omega arith, moved_on a.words.now l.words c.move_eight.new.0 a.from a.to l.k 8 c.requires.0 l.invariant.0 l.invariant.2 m)
+    (omega arith, omega arith, moved_on a.words.now l.words c.move_eight.new.words a.from a.to l.k 8 c.requires.0 l.invariant.0 l.invariant.2 m)
 
 pub shape_of-words : goal.shape_of-words
 shape_of-words c = c.loop-k.invariant.2.long

@@ -12,7 +12,7 @@ pub loop-k-preserved : goal.loop-k-preserved
 loop-k-preserved c =
     let l = c.loop-k in
     let h = c.loop-k-test.true in
-    let e = c.all_left.ensures (not-false _ c.if-not-all_left.false) in
+    let e = c.all_left.ensures c.if-not-all_left.false in
     (omega arith, omega arith, λ i p q. further i p q (ltb i l.k) refl l.invariant.2 e)
   where
     further : {f : ℕ → Bool} {from k : ℕ} (i : ℕ) → from ≤ i → i < k + 8 → (t : Bool) → ltb i k ≡ t →

@@ -15,14 +15,14 @@ pub returns-then-not-left-i : goal.returns-then-not-left-i
 returns-then-not-left-i c =
     let a = c.args in
     goes_marked a.words.now a.atoms a.target a.left.now a.i
-    c.plan_id.result c.plan_id.ensures c.if-plan_id-target.false (not-true _ c.if-not-left-i.true)
+    c.plan_id.result c.plan_id.ensures c.if-plan_id-target.false c.if-not-left-i.true
 
 pub returns-then-atom_gone : goal.returns-then-atom_gone
 returns-then-atom_gone c =
     let a = c.args in
     let g = atom_gone a.words.now a.atoms a.target a.left.now in
     goes_first a.words.now a.atoms a.target a.left.now a.i
-    c.plan_id.result c.plan_id.ensures c.if-plan_id-target.false (not-false _ c.if-not-left-i.false)
+    c.plan_id.result c.plan_id.ensures c.if-plan_id-target.false c.if-not-left-i.false
     (gone_is g c.if-atom_gone.true c.atom_gone.ensures c.plan_justification-first.ensures)
 
 pub returns-then-atom_gone-2 : goal.returns-then-atom_gone-2
@@ -30,7 +30,7 @@ returns-then-atom_gone-2 c =
     let a = c.args in
     let g = atom_gone a.words.now a.atoms a.target a.left.now in
     goes_second a.words.now a.atoms a.target a.left.now a.i
-    c.plan_id.result c.plan_id.ensures c.if-plan_id-target.false (not-false _ c.if-not-left-i.false)
+    c.plan_id.result c.plan_id.ensures c.if-plan_id-target.false c.if-not-left-i.false
     (gone_is g c.if-atom_gone.false c.atom_gone.ensures c.plan_justification-first.ensures)
     (gone_is g c.if-atom_gone-2.true c.atom_gone-2.ensures c.plan_justification-second.ensures)
 
@@ -39,7 +39,7 @@ returns-then-atom_gone-3 c =
     let a = c.args in
     let g = atom_gone a.words.now a.atoms a.target a.left.now in
     goes_third a.words.now a.atoms a.target a.left.now a.i
-    c.plan_id.result c.plan_id.ensures c.if-plan_id-target.false (not-false _ c.if-not-left-i.false)
+    c.plan_id.result c.plan_id.ensures c.if-plan_id-target.false c.if-not-left-i.false
     (gone_is g c.if-atom_gone.false c.atom_gone.ensures c.plan_justification-first.ensures)
     (gone_is g c.if-atom_gone-2.false c.atom_gone-2.ensures c.plan_justification-second.ensures)
     (gone_is g c.if-atom_gone-3.true c.atom_gone-3.ensures c.plan_justification-third.ensures)
@@ -49,7 +49,7 @@ returns c =
     let a = c.args in
     let g = atom_gone a.words.now a.atoms a.target a.left.now in
     goes_fourth a.words.now a.atoms a.target a.left.now a.i
-    c.plan_id.result c.plan_id.ensures c.if-plan_id-target.false (not-false _ c.if-not-left-i.false)
+    c.plan_id.result c.plan_id.ensures c.if-plan_id-target.false c.if-not-left-i.false
     (gone_is g c.if-atom_gone.false c.atom_gone.ensures c.plan_justification-first.ensures)
     (gone_is g c.if-atom_gone-2.false c.atom_gone-2.ensures c.plan_justification-second.ensures)
     (gone_is g c.if-atom_gone-3.false c.atom_gone-3.ensures c.plan_justification-third.ensures)

@@ -26,20 +26,18 @@ returns c =
     let first = c.keep_atoms-atoms in
     let second = c.keep_plans-plans in
     let W = a.words.now in
-    let left = marks.new.1.1.1.0 in
-    let X = second.new.0 in
+    let left = marks.new.left in
+    let X = second.new.words in
     let n = first.result in
     let p = second.result in
-    let fewer = first.ensures.0.0 in
+    let fewer = first.ensures.kept.0 in
     let atoms : atoms_of n X ≡ keep_by left (atoms_of a.scalars.atoms W) =
-    second.ensures.1 n (omega (arith, h.few_atoms)) ∙ first.ensures.0.1 ∙ ap (keep_by left) cut.ensures.0 in
+    second.ensures.atoms n (omega (arith, h.few_atoms)) ∙ first.ensures.kept.1 ∙ ap (keep_by left) cut.ensures.atoms in
     let plans : plans_of p X ≡ keep_by (drop 256 left) (map (unlinked_from a.target) (plans_of a.scalars.plans W)) =
-    second.ensures.0.1 ∙ ap (keep_by (drop 256 left)) (first.ensures.1 a.scalars.plans ∙ cut.ensures.1) in
-    let long : length X ≡ 2432 = second.auto.0 ∙ first.auto.0 ∙ cut.auto.0 ∙ h.long in
-    rw c.with_counts.ensures (
-      left_sound W a.scalars h a.target left marks.ensures X n p atoms plans long (omega (arith, fewer, h.few_atoms)) (omega (arith, second.ensures.0.0, h.few_plans)),
-      (
-        removed W a.scalars h a.target left marks.ensures X n p atoms plans,
-        counted W a.scalars h a.target left marks.ensures X n p atoms plans fewer second.ensures.0.0,
-      ),
-    )
+    second.ensures.kept.1 ∙ ap (keep_by (drop 256 left)) (first.ensures.plans a.scalars.plans ∙ cut.ensures.plans) in
+    let long : length X ≡ 2432 = second.auto.words ∙ first.auto.words ∙ cut.auto.words ∙ h.long in
+    rw c.with_counts.ensures record {
+      sound = left_sound W a.scalars h a.target left marks.ensures X n p atoms plans long (omega (arith, fewer, h.few_atoms)) (omega (arith, second.ensures.kept.0, h.few_plans));
+      removed = removed W a.scalars h a.target left marks.ensures X n p atoms plans;
+      counted = counted W a.scalars h a.target left marks.ensures X n p atoms plans fewer second.ensures.kept.0;
+    }

@@ -21,7 +21,7 @@ loop-k-preserved c =
     let l = c.loop-k in
     let h = c.loop-k-test.true in
     let a = c.args in
-    let m : get_or a.left.now l.k false ≡ true = not-false _ c.if-not-left-k.false in (
+    let m : get_or a.left.now l.k false ≡ true = c.if-not-left-k.false in (
       omega arith,
       omega arith,
       λ i p q. ⊎_elim

@@ -6,10 +6,10 @@ use borrow.Author.Rules.{rules}
 use Rattle.deletion.proofs.unlink.Goals as goal
 
 pub returns-then-target-eq0 : goal.returns-then-target-eq0
-returns-then-target-eq0 c = let a = c.args in (refl, no_target a.scalars.plans a.words.now a.target c.if-target-eq0.true)
+returns-then-target-eq0 c = let a = c.args in record { atoms = refl; plans = no_target a.scalars.plans a.words.now a.target c.if-target-eq0.true }
 
 pub returns-then-plans-k : goal.returns-then-plans-k
-returns-then-plans-k c = let a = c.args in (refl, no_owner a.scalars.plans a.words.now a.target c.find_owner-k.result c.find_owner-k.ensures c.if-plans-k.true)
+returns-then-plans-k c = let a = c.args in record { atoms = refl; plans = no_owner a.scalars.plans a.words.now a.target c.find_owner-k.result c.find_owner-k.ensures c.if-plans-k.true }
 
 pub returns : goal.returns
 returns c =
@@ -18,7 +18,7 @@ returns c =
     let found = c.find_owner-k.ensures in
     let v = c.one_less.result in
     let less = c.one_less.ensures ∙ ap (λ (n : ℕ). n - 1) c.plan_left-left.ensures in
-    rw (c.put_plan_word-2.ensures, c.put_plan_word.ensures) (
-      unlinked_atoms a.words.now a.scalars c.requires a.target k v c.if-target-eq0.false found c.if-plans-k.false less,
-      owner_unlinked a.words.now a.scalars c.requires a.target k v c.if-target-eq0.false found c.if-plans-k.false less,
-    )
+    rw (c.put_plan_word-2.ensures, c.put_plan_word.ensures) record {
+      atoms = unlinked_atoms a.words.now a.scalars c.requires a.target k v c.if-target-eq0.false found c.if-plans-k.false less;
+      plans = owner_unlinked a.words.now a.scalars c.requires a.target k v c.if-target-eq0.false found c.if-plans-k.false less;
+    }

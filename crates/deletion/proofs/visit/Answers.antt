@@ -15,7 +15,7 @@ use Rattle.deletion.proofs.visit.Goals as goal
 pub returns-then-not-plan_goes : goal.returns-then-not-plan_goes
 returns-then-not-plan_goes c =
     let a = c.args in
-    visited_stays a.words.now a.atoms a.target a.i a.left.now (sym (not-true _ c.if-not-plan_goes.true) ∙ c.plan_goes.ensures)
+    visited_stays a.words.now a.atoms a.target a.i a.left.now (sym c.if-not-plan_goes.true ∙ c.plan_goes.ensures)
 
 pub returns-then-id-eq0 : goal.returns-then-id-eq0
 returns-then-id-eq0 c =
@@ -24,12 +24,12 @@ returns-then-id-eq0 c =
     let L : List Bool = set a.left.now (256 + a.i) false in
     atom_missing W a.atoms 0 L (index_of 0 (atom_ids_of a.atoms W)) refl c.requires.5
     ∙ ap (λ (x : ℕ). without_atom W a.atoms x L) (sym c.if-id-eq0.true ∙ c.plan_subgoal-id.ensures)
-    ∙ visited_goes W a.atoms a.target a.i a.left.now (sym (not-false _ c.if-not-plan_goes.false) ∙ c.plan_goes.ensures)
+    ∙ visited_goes W a.atoms a.target a.i a.left.now (sym c.if-not-plan_goes.false ∙ c.plan_goes.ensures)
 
 pub shape_of-left : goal.shape_of-left
 shape_of-left c =
     let a = c.args in
-    c.mark_atom-subgoal.auto.1.1.0 ∙ length-set a.left.now (256 + a.i) false
+    c.mark_atom-subgoal.auto.left ∙ length-set a.left.now (256 + a.i) false
 
 pub returns : goal.returns
 returns c =
@@ -37,4 +37,4 @@ returns c =
     let W : List ℕ = a.words.now in
     c.mark_atom-subgoal.ensures
     ∙ ap (λ (x : ℕ). without_atom W a.atoms x (set a.left.now (256 + a.i) false)) c.plan_subgoal-id.ensures
-    ∙ visited_goes W a.atoms a.target a.i a.left.now (sym (not-false _ c.if-not-plan_goes.false) ∙ c.plan_goes.ensures)
+    ∙ visited_goes W a.atoms a.target a.i a.left.now (sym c.if-not-plan_goes.false ∙ c.plan_goes.ensures)

@@ -11,9 +11,9 @@ pub returns : goal.returns
 returns c =
     let filter = c.args.filter.now in
     λ h. record {
-      c.before.before.before.before.before.before.before.before = c.if-r-ne1.false;
-      c.before.before.before.before.before.before.before = c.wanted_by-a.result;
-      c.before.before.before.before = c.wanted_by-b.result;
+      one = c.if-r-ne1.false;
+      a = c.wanted_by-a.result;
+      b = c.wanted_by-b.result;
       wants_a = c.wanted_by-a.ensures;
       wants_b = c.wanted_by-b.ensures;
       known_a = not-false c.wanted_by-a.result.known c.if-not-a.false;
@@ -22,10 +22,10 @@ returns c =
     }
 
 pub returns-then-r-ne1 : goal.returns-then-r-ne1
-returns-then-r-ne1 c = absurd (false≢true z)
+returns-then-r-ne1 c = λ z. absurd (false≢true z)
 
 pub returns-then-not-a : goal.returns-then-not-a
-returns-then-not-a c = absurd (false≢true z)
+returns-then-not-a c = λ z. absurd (false≢true z)
 
 pub returns-then-not-b : goal.returns-then-not-b
-returns-then-not-b c = absurd (false≢true z)
+returns-then-not-b c = λ z. absurd (false≢true z)

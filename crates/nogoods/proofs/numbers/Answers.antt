@@ -7,6 +7,6 @@ use Rattle.nogoods.proofs.numbers.Goals as goal
 
 pub returns : goal.returns
 returns c =
-    let v : length c.args.t3 ≡ 8 = search rules in
-    let n : length c.args.t5 ≡ 4 = search rules in
-    numbers_are c.args.rest c.args.set c.args.t3 c.args.count c.args.t5 v n
+    let v : length c.args.values ≡ 8 = search rules in
+    let n : length c.args.ids ≡ 4 = search rules in
+    numbers_are c.args.rest c.args.set c.args.values c.args.count c.args.ids v n

@@ -3,6 +3,7 @@ use native.Mathlib.Omega.{arith}
 use mathlib.Core.Logic.{⊎_elim}
 use Prim.Native.Nat.{◌-◌, ◌<◌}
 use Rattle.nogoods.proofs.place.Goals as goal
+use Rattle.nogoods.proofs.place.Goals.{then-bits-eq1, else-bits-eq1}
 
 pub overflow_mul-sum : goal.overflow_mul-sum
 overflow_mul-sum c = let h = c.loop-k.invariant in omega arith
@@ -12,10 +13,7 @@ overflow_add-sum c = let h = c.loop-k.invariant in omega arith
 
 pub loop-k-preserved : goal.loop-k-preserved
 loop-k-preserved c =
-    ⊎_elim
-    (λ w. let e = w.1 in omega arith)
-    (λ w. let e = w.1 in let h = c.loop-k.invariant in omega arith)
-    c.if-bits-eq1.branch
+    elim c.if-bits-eq1.branch [ then-bits-eq1 w ↦ let e = w.sum-is in omega arith | else-bits-eq1 w ↦ let e = w.sum-is in let h = c.loop-k.invariant in omega arith ]
 
 pub overflow_mul-result-2 : goal.overflow_mul-result-2
 overflow_mul-result-2 c = let h = c.loop-k.invariant in omega arith

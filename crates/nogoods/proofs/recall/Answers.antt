@@ -19,7 +19,7 @@ returns-then-set-eq0 c =
       speaks = record {
         rest_is = sym c.read.ensures ∙ c.if-read-rest.false;
         set_is = sym c.read-set.ensures;
-        values_are = c.same_values.ensures (not-false _ c.if-not-same_values.false);
+        values_are = c.same_values.ensures c.if-not-same_values.false;
         ids_are = λ m. absurd (no_ids _ c.if-set-eq0.true m);
       };
     }
@@ -32,7 +32,7 @@ returns-then-same_ids c =
       speaks = record {
         rest_is = sym c.read.ensures ∙ c.if-read-rest.false;
         set_is = sym c.read-set.ensures;
-        values_are = c.same_values.ensures (not-false _ c.if-not-same_values.false);
+        values_are = c.same_values.ensures c.if-not-same_values.false;
         ids_are = λ m. c.same_ids.ensures c.if-same_ids.true;
       };
     }

@@ -21,17 +21,17 @@ returns-then-read-ids c = λ e. absurd (false≢true e)
 pub loop-j-preserved : goal.loop-j-preserved
 loop-j-preserved c =
     let a = c.args in
-    ids_more (row 15 a.nogoods.now a.at) a.t4 c.loop-j.j (sym c.read-in-loop-j.ensures ∙ c.if-read-ids.false) c.loop-j.invariant
+    ids_more (row 15 a.nogoods.now a.at) a.ids c.loop-j.j (sym c.read-in-loop-j.ensures ∙ c.if-read-ids.false) c.loop-j.invariant
 
 pub returns : goal.returns
 returns c =
     let a = c.args in
     let p = c.requires in
-    let n : length a.t4 ≡ 4 = search rules in
+    let n : length a.ids ≡ 4 = search rules in
     let l = row_long 15 a.nogoods.now a.at (omega arith) in
     λ e. (
       sym c.read.ensures ∙ c.if-read-count.false,
-      ids_same (row 15 a.nogoods.now a.at) a.t4 l n (λ k h. c.loop-j.invariant k (omega arith)),
+      ids_same (row 15 a.nogoods.now a.at) a.ids l n (λ k h. c.loop-j.invariant k (omega arith)),
     )
 
 pub overflow_add-j : goal.overflow_add-j

@@ -21,7 +21,7 @@ loop-j-preserved c =
     let r = c.read in
     let v = c.loop-j.invariant in (
       ap (λ (n : ℕ). n / 2) v.0 ∙ halved a.set c.loop-j.j,
-      same_more e a.t4 a.set c.loop-j.left c.loop-j.j r.result v.0 (omega arith) r.ensures c.if-left-read.false v.1,
+      same_more e a.values a.set c.loop-j.left c.loop-j.j r.result v.0 (omega arith) r.ensures c.if-left-read.false v.1,
     )
 
 pub returns : goal.returns

@@ -17,13 +17,13 @@ unfolding answers width given_ids
 returns-then-r-eq1 c =
     let n = ne_eqb (c.args.r.op % 2) 0 (λ z. let h = c.if-r-eq1.true in omega (arith, z)) in
     let e = c.next_fit.ensures in
-    (e.0, (record { is = rw n e.1.0.is; further = rw n e.1.0.further }, e.1.1))
+    record { sized = e.sized; is = record { is = rw n e.is.is; further = rw n e.is.further }; back = e.back; kept = e.kept }
 
 pub returns-then-c-gt0 : goal.returns-then-c-gt0
 returns-then-c-gt0 c =
     let z : c.args.r.op % 2 ≡ 0 = let h = c.if-r-eq1.false in omega (arith, h) in
     let h = c.if-c-gt0.true in
-    (c.requires.2, (record { is = negation_later _ _ _ _ z _ (λ q. omega (arith, q)); further = λ q. absurd (q refl) }, (λ _. c.requires.3, refl)))
+    record { sized = c.requires.2; is = record { is = negation_later _ _ _ _ z _ (λ q. omega (arith, q)); further = λ q. absurd (q refl) }; back = λ _. c.requires.3; kept = refl }
 
 pub returns-then-next_fit-eq0 : goal.returns-then-next_fit-eq0
 returns-then-next_fit-eq0 c =
@@ -32,17 +32,16 @@ returns-then-next_fit-eq0 c =
     let f : Found = found_in a.before a.matched.now a.count in
     let e = c.next_fit-2.ensures in
     let first : a.c ≡ 0 = let h = c.if-c-gt0.false in omega arith in
-    let w = one_wide a.r z a.s in (
-      e.0,
-      (
-        record {
-          is = ap (λ (n : ℕ). answers a.words.now a.s a.r f n) first ∙ negation_holds _ _ _ _ z _ _ e.1.0.is c.if-next_fit-eq0.true
-              ∙ ap {B = List Found} (λ (g : Found). g ∷ answers a.words.now a.s a.r f 1) (found_still a.r z _ _ _ _ _ (e.1.1.0 c.if-next_fit-eq0.true) e.1.1.1);
+    let w = one_wide a.r z a.s in record {
+      sized = e.sized;
+      is = record {
+          is = ap (λ (n : ℕ). answers a.words.now a.s a.r f n) first ∙ negation_holds _ _ _ _ z _ _ e.is.is c.if-next_fit-eq0.true
+              ∙ ap {B = List Found} (λ (g : Found). g ∷ answers a.words.now a.s a.r f 1) (found_still a.r z _ _ _ _ _ (e.back c.if-next_fit-eq0.true) e.kept);
           further = λ _. (omega arith, omega arith);
-        },
-        (λ q. absurd (omega (arith, q)), e.1.1.1),
-      ),
-    )
+      };
+      back = λ q. absurd (omega (arith, q));
+      kept = e.kept;
+    }
 
 pub returns : goal.returns
 returns c =
@@ -50,13 +49,12 @@ returns c =
     let z : a.r.op % 2 ≡ 0 = let h = c.if-r-eq1.false in omega (arith, h) in
     let f : Found = found_in a.before a.matched.now a.count in
     let e = c.next_fit-2.ensures in
-    let first : a.c ≡ 0 = let h = c.if-c-gt0.false in omega arith in (
-      (sym (ap length c.requires.3) ∙ c.requires.2.0, e.0.1),
-      (
-        record {
-          is = ap (λ (n : ℕ). answers a.words.now a.s a.r f n) first ∙ negation_fails _ _ _ _ z _ _ e.1.0.is c.if-next_fit-eq0.false;
+    let first : a.c ≡ 0 = let h = c.if-c-gt0.false in omega arith in record {
+      sized = (sym (ap length c.requires.3) ∙ c.requires.2.0, e.sized.1);
+      is = record {
+          is = ap (λ (n : ℕ). answers a.words.now a.s a.r f n) first ∙ negation_fails _ _ _ _ z _ _ e.is.is c.if-next_fit-eq0.false;
           further = λ q. absurd (q refl);
-        },
-        (λ _. refl, e.1.1.1),
-      ),
-    )
+      };
+      back = λ _. refl;
+      kept = e.kept;
+    }

@@ -1,6 +1,7 @@
 use borrow.Author.Rules.{rules}
 use mathlib.Core.Path.{◌≡◌, refl, sym, ap, ◌∙◌}
-use Prim.Native.Nat.{◌-◌, ◌≤◌, ◌<◌}
+use mathlib.Core.List.{List}
+use Prim.Native.Nat.{ℕ, ◌-◌, ◌≤◌, ◌<◌}
 use native.Mathlib.Omega.{arith}
 use lib.ListN.{length}
 use Rattle.model.specs.Matching.{Found}
@@ -9,17 +10,10 @@ use Rattle.queries.specs.Answers.{tried, count_of, hits}
 use Rattle.queries.proofs.Answers.{hits_end, hits_none, hits_one, onward_one}
 use Rattle.queries.proofs.Skips.{hits_skipped}
 use Rattle.queries.proofs.next_candidate.Goals as goal
-use Rattle.queries.proofs.next_candidate.Goals.{After-candidate_at-x}
 
--- candidate c is numbered, and it is tried on what was found before
-tried-one : (x : After-candidate_at-x) →
-    let a = x.args in
-    (x.loop-c.c < count_of a.s a.r) × (◌≡◌ {A = Found} (found_in x.loop-c.values x.loop-c.matched a.count) (found_in a.t5 a.matched.now a.count))
-tried-one x =
-    let i = x.loop-c.invariant in
-    let n = x.count-n.ensures in
-    let h = x.loop-c-test.true in
-    (omega arith, rw (i.1, i.2))
+-- what was found before it is what candidate c is tried on
+same_found : (v w m l : List ℕ) (n : ℕ) → v ≡ w → Kept n l m → ◌≡◌ {A = Found} (found_in v m n) (found_in w l n)
+same_found v w m l n e k = rw (e, k)
 
 pub skip-c-requires : goal.skip-c-requires
 skip-c-requires c = c.requires.0
@@ -41,21 +35,19 @@ take-requires c = (c.requires.1, c.loop-c.invariant.0)
 pub returns-then-take : goal.returns-then-take
 returns-then-take c =
     let i = c.loop-c.invariant in
-    let h = tried-one c.before.before.before.before in
     let n = c.count-n.ensures in
     let k = c.loop-c-test.true in
     let on = i.3 in
-    let a = c.args in (
-      c.take.ensures.0,
-      (
-        record {
-          is = i.4 ∙ hits_one _ _ _ _ _ h.0 c.candidate_at-x.result c.candidate_at-x.ensures c.take.result _ (c.take.ensures.1.0 ∙ ap (tried a.r c.candidate_at-x.result) h.1) c.if-take.true
-              ∙ sym (onward_one (hits a.words.now a.s a.r (found_in a.t5 a.matched.now a.count)) _ _ (λ z. omega (arith, z)));
+    let a = c.args in record {
+      sized = c.take.ensures.sized;
+      is = record {
+          is = i.4 ∙ hits_one _ _ _ _ _ (omega arith) c.candidate_at-x.result c.candidate_at-x.ensures c.take.result _ (c.take.ensures.is ∙ ap (tried a.r c.candidate_at-x.result) (same_found c.loop-c.values a.before c.loop-c.matched a.matched.now a.count i.1 i.2)) c.if-take.true
+              ∙ sym (onward_one (hits a.words.now a.s a.r (found_in a.before a.matched.now a.count)) _ _ (λ z. omega (arith, z)));
           further = λ _. (omega arith, omega arith);
-        },
-        (λ z. absurd (omega (arith, z)), c.take.ensures.1.1 ∙ i.2),
-      ),
-    )
+      };
+      back = λ z. absurd (omega (arith, z));
+      kept = c.take.ensures.kept ∙ i.2;
+    }
 
 pub skip-c-requires-in-loop-c : goal.skip-c-requires-in-loop-c
 skip-c-requires-in-loop-c c = c.requires.0
@@ -66,15 +58,16 @@ loop-c-smaller c = let h = c.loop-c-test.true in let on = c.skip-c-in-loop-c.ens
 pub loop-c-preserved : goal.loop-c-preserved
 loop-c-preserved c =
     let i = c.loop-c.invariant in
-    let h = tried-one c.before.before.before.before.before in
+    let n = c.count-n.ensures in
+    let k = c.loop-c-test.true in
     let a = c.args in
     let on = c.skip-c-in-loop-c.ensures.on in
     let from = i.3 in (
-      (sym (ap length c.requires.3) ∙ c.requires.2.0, c.take.ensures.0.1),
+      (sym (ap length c.requires.3) ∙ c.requires.2.0, c.take.ensures.sized.1),
       refl,
-      c.take.ensures.1.1 ∙ i.2,
+      c.take.ensures.kept ∙ i.2,
       omega arith,
-      i.4 ∙ hits_none _ _ _ _ _ h.0 c.candidate_at-x.result c.candidate_at-x.ensures c.take.result _ (c.take.ensures.1.0 ∙ ap (tried a.r c.candidate_at-x.result) h.1) c.if-take.false
+      i.4 ∙ hits_none _ _ _ _ _ (omega arith) c.candidate_at-x.result c.candidate_at-x.ensures c.take.result _ (c.take.ensures.is ∙ ap (tried a.r c.candidate_at-x.result) (same_found c.loop-c.values a.before c.loop-c.matched a.matched.now a.count i.1 i.2)) c.if-take.false
           ∙ hits_skipped _ _ _ _ _ _ _ _ _ c.wanted_by-i.ensures c.wanted_by-a.ensures c.wanted_by-b.ensures c.skip-c-in-loop-c.ensures,
     )
 
@@ -83,4 +76,9 @@ returns c =
     let i = c.loop-c.invariant in
     let n = c.count-n.ensures in
     let h = c.loop-c-test.false in
-    (i.0, (record { is = i.4 ∙ hits_end _ _ _ _ _ (omega arith); further = λ z. absurd (z refl) }, (λ _. i.1, i.2)))
+    record {
+      sized = i.0;
+      is = record { is = i.4 ∙ hits_end _ _ _ _ _ (omega arith); further = λ z. absurd (z refl) };
+      back = λ _. i.1;
+      kept = i.2;
+    }

@@ -14,7 +14,12 @@ returns-then-c-from c =
     let p = c.requires in
     let a = c.args in
     let f = found_in a.before a.matched.now a.count in
-    (p.2, (record { is = hits_past a.words.now a.s a.r f a.i _ p.4 c.behind-c.ensures _ c.if-c-from.true; further = λ z. absurd (z refl) }, (λ _. p.3, refl)))
+    record {
+      sized = p.2;
+      is = record { is = hits_past a.words.now a.s a.r f a.i _ p.4 c.behind-c.ensures _ c.if-c-from.true; further = λ z. absurd (z refl) };
+      back = λ _. p.3;
+      kept = refl;
+    }
 
 pub returns-then-take : goal.returns-then-take
 returns-then-take c =
@@ -23,17 +28,16 @@ returns-then-take c =
     let f = found_in a.before a.matched.now a.count in
     let h = c.if-c-from.false in
     let low = c.behind-c.ensures.inside in
-    let same-found : ◌≡◌ {A = Found} (found_in a.values.now a.matched.now a.count) f = rw p.3 in (
-      c.take.ensures.0,
-      (
-        record {
+    let same-found : ◌≡◌ {A = Found} (found_in a.values.now a.matched.now a.count) f = rw p.3 in record {
+      sized = c.take.ensures.sized;
+      is = record {
           is = alone_fits a.words.now a.s a.r f a.i _ p.4 c.behind-c.ensures _ h c.candidate_at-x.result c.candidate_at-x.ensures c.take.result _
-              (c.take.ensures.1.0 ∙ ap (tried a.r c.candidate_at-x.result) same-found) c.if-take.true;
+              (c.take.ensures.is ∙ ap (tried a.r c.candidate_at-x.result) same-found) c.if-take.true;
           further = λ _. (omega arith, omega arith);
-        },
-        (λ z. absurd (omega (arith, z)), c.take.ensures.1.1),
-      ),
-    )
+      };
+      back = λ z. absurd (omega (arith, z));
+      kept = c.take.ensures.kept;
+    }
 
 pub returns : goal.returns
 returns c =
@@ -41,14 +45,13 @@ returns c =
     let a = c.args in
     let f = found_in a.before a.matched.now a.count in
     let h = c.if-c-from.false in
-    let same-found : ◌≡◌ {A = Found} (found_in a.values.now a.matched.now a.count) f = rw p.3 in (
-      (sym (ap length p.3) ∙ p.2.0, c.take.ensures.0.1),
-      (
-        record {
+    let same-found : ◌≡◌ {A = Found} (found_in a.values.now a.matched.now a.count) f = rw p.3 in record {
+      sized = (sym (ap length p.3) ∙ p.2.0, c.take.ensures.sized.1);
+      is = record {
           is = alone_fails a.words.now a.s a.r f a.i _ p.4 c.behind-c.ensures _ h c.candidate_at-x.result c.candidate_at-x.ensures c.take.result _
-              (c.take.ensures.1.0 ∙ ap (tried a.r c.candidate_at-x.result) same-found) c.if-take.false;
+              (c.take.ensures.is ∙ ap (tried a.r c.candidate_at-x.result) same-found) c.if-take.false;
           further = λ z. absurd (z refl);
-        },
-        (λ _. refl, c.take.ensures.1.1),
-      ),
-    )
+      };
+      back = λ _. refl;
+      kept = c.take.ensures.kept;
+    }

@@ -1,6 +1,7 @@
 use borrow.Author.Rules.{rules}
 use mathlib.Core.Path.{◌≡◌, refl, sym, ap, ◌∙◌}
-use Prim.Native.Nat.{◌-◌, ◌≤◌, ◌<◌}
+use mathlib.Core.List.{List}
+use Prim.Native.Nat.{ℕ, ◌-◌, ◌≤◌, ◌<◌}
 use native.Mathlib.Omega.{arith}
 use lib.ListN.{length}
 use Rattle.model.specs.Matching.{Found}
@@ -9,13 +10,10 @@ use Rattle.queries.specs.Answers.{tried, hits}
 use Rattle.queries.proofs.Answers.{hits_end, hits_none, hits_one, onward_one}
 use Rattle.queries.proofs.Skips.{plans_numbered, plan_at_number}
 use Rattle.queries.proofs.next_plan.Goals as goal
-use Rattle.queries.proofs.next_plan.Goals.{After-plan_candidate-x}
 
 -- what was found before it is what plan c is tried on
-same-found : (x : After-plan_candidate-x) →
-    let a = x.args in
-    ◌≡◌ {A = Found} (found_in x.loop-c.values x.loop-c.matched a.count) (found_in a.before a.matched.now a.count)
-same-found x = let i = x.loop-c.invariant in rw (i.1, i.2)
+same_found : (v w m l : List ℕ) (n : ℕ) → v ≡ w → Kept n l m → ◌≡◌ {A = Found} (found_in v m n) (found_in w l n)
+same_found v w m l n e k = rw (e, k)
 
 pub loop-c-init : goal.loop-c-init
 loop-c-init c = let p = c.requires in (p.2, p.3, refl, omega arith, refl)
@@ -27,19 +25,18 @@ returns-then-take c =
     let a = c.args in
     let n = plans_numbered a.s a.r p.4 p.5 in
     let k = c.loop-c-test.true in
-    let on = i.3 in (
-      c.take.ensures.0,
-      (
-        record {
+    let on = i.3 in record {
+      sized = c.take.ensures.sized;
+      is = record {
           is = i.4
               ∙ hits_one _ _ _ _ _ (omega arith) c.plan_candidate-x.result (c.plan_candidate-x.ensures ∙ plan_at_number a.s a.r p.4 p.5 _ _) c.take.result _
-              (c.take.ensures.1.0 ∙ ap (tried a.r c.plan_candidate-x.result) (same-found c.before.before.before.before)) c.if-take.true
+              (c.take.ensures.is ∙ ap (tried a.r c.plan_candidate-x.result) (same_found c.loop-c.values a.before c.loop-c.matched a.matched.now a.count i.1 i.2)) c.if-take.true
               ∙ sym (onward_one (hits a.words.now a.s a.r (found_in a.before a.matched.now a.count)) _ _ (λ z. omega (arith, z)));
           further = λ _. (omega arith, omega arith);
-        },
-        (λ z. absurd (omega (arith, z)), c.take.ensures.1.1 ∙ i.2),
-      ),
-    )
+      };
+      back = λ z. absurd (omega (arith, z));
+      kept = c.take.ensures.kept ∙ i.2;
+    }
 
 pub loop-c-preserved : goal.loop-c-preserved
 loop-c-preserved c =
@@ -49,13 +46,13 @@ loop-c-preserved c =
     let n = plans_numbered a.s a.r p.4 p.5 in
     let k = c.loop-c-test.true in
     let on = i.3 in (
-      (sym (ap length p.3) ∙ p.2.0, c.take.ensures.0.1),
+      (sym (ap length p.3) ∙ p.2.0, c.take.ensures.sized.1),
       refl,
-      c.take.ensures.1.1 ∙ i.2,
+      c.take.ensures.kept ∙ i.2,
       omega arith,
       i.4
           ∙ hits_none _ _ _ _ _ (omega arith) c.plan_candidate-x.result (c.plan_candidate-x.ensures ∙ plan_at_number a.s a.r p.4 p.5 _ _) c.take.result _
-          (c.take.ensures.1.0 ∙ ap (tried a.r c.plan_candidate-x.result) (same-found c.before.before.before.before)) c.if-take.false,
+          (c.take.ensures.is ∙ ap (tried a.r c.plan_candidate-x.result) (same_found c.loop-c.values a.before c.loop-c.matched a.matched.now a.count i.1 i.2)) c.if-take.false,
     )
 
 pub returns : goal.returns
@@ -64,7 +61,12 @@ returns c =
     let a = c.args in
     let n = plans_numbered a.s a.r c.requires.4 c.requires.5 in
     let h = c.loop-c-test.false in
-    (i.0, (record { is = i.4 ∙ hits_end _ _ _ _ _ (omega arith); further = λ z. absurd (z refl) }, (λ _. i.1, i.2)))
+    record {
+      sized = i.0;
+      is = record { is = i.4 ∙ hits_end _ _ _ _ _ (omega arith); further = λ z. absurd (z refl) };
+      back = λ _. i.1;
+      kept = i.2;
+    }
 
 pub plan_candidate-x-requires : goal.plan_candidate-x-requires
 plan_candidate-x-requires c = let p = c.requires in let n = p.0.plans in let h = c.loop-c-test.true in (p.0.long, omega arith)

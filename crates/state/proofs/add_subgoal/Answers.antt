@@ -11,7 +11,10 @@ pub returns : goal.returns
 returns c =
     let a = c.args in
     let m = c.append_atom-r in
-    let X = m.new.0 in
-    let made : config_of X (atom_counted a.scalars) ≡ add_atom a.p a.a a.b (config_of a.words.now a.scalars) = rw m.ensures.0 at m.ensures.1 in
-    let long : length X ≡ 2432 = m.auto.0 ∙ c.requires.0.long in
-    (m.ensures.0, rw (m.ensures.0, c.put_plan_word.ensures) (subgoal_linked a.words.now X a.scalars a.k a.p a.a a.b c.requires.0 c.requires.1 long made))
+    let X = m.new.words in
+    let made : config_of X (atom_counted a.scalars) ≡ add_atom a.p a.a a.b (config_of a.words.now a.scalars) = rw m.ensures.counted at m.ensures.made in
+    let long : length X ≡ 2432 = m.auto.words ∙ c.requires.0.long in
+    record {
+      counted = m.ensures.counted;
+      made = rw (m.ensures.counted, c.put_plan_word.ensures) (subgoal_linked a.words.now X a.scalars a.k a.p a.a a.b c.requires.0 c.requires.1 long made);
+    }

@@ -20,4 +20,7 @@ pub returns : goal.returns
 unfolding with_atom
 returns c =
     let a = c.args in
-    (c.atom_made.ensures, rw c.atom_made.ensures (atom_appended a.words.now a.scalars a.p a.a a.b c.requires.0 c.requires.1))
+    record {
+      counted = c.atom_made.ensures;
+      made = rw c.atom_made.ensures (atom_appended a.words.now a.scalars a.p a.a a.b c.requires.0 c.requires.1);
+    }

@@ -14,8 +14,8 @@ returns c =
     let a = c.args in
     let W = a.words.now in
     let hj : length a.justifications ≡ 4 = search rules in
-    let hv : length a.values ≡ 8 = search rules in (
-      c.plan_made.ensures,
-      rw c.plan_made.ensures (plan_appended W a.scalars a.set a.rule a.left a.justifications a.values c.write.new.0 c.requires.0 c.requires.1 c.requires.2 hj hv
-          (c.write.ensures ∙ ap (placed 18 (part plans_at (length W - plans_at) W) a.scalars.plans) c.plan_words-numbers.ensures)),
-    )
+    let hv : length a.values ≡ 8 = search rules in record {
+      counted = c.plan_made.ensures;
+      made = rw c.plan_made.ensures (plan_appended W a.scalars a.set a.rule a.left a.justifications a.values c.write.new.words c.requires.0 c.requires.1 c.requires.2 hj hv
+          (c.write.ensures ∙ ap (placed 18 (part plans_at (length W - plans_at) W) a.scalars.plans) c.plan_words-numbers.ensures));
+    }

@@ -11,6 +11,13 @@ use Rattle.state.specs.View.{plan_at}
 use Rattle.queries.proofs.Laws.{justifications_few, justifications_last}
 use Rattle.queries.proofs.candidates.justification_count.Goals as goal
 
+-- not 0 at j, and none behind
+at_last : (words : List ℕ) (k j v : ℕ) → v ≡ get_or (plan_at words k).justifications j 0 → v ≢ 0 → length (plan_at words k).justifications ≤ suc j → suc j ≡ length (plan_at words k).justifications
+at_last words k j v e h f = let g = get_nonzero (plan_at words k).justifications j (λ z. h (e ∙ z)) in omega arith
+
+no_last : (words : List ℕ) (k j v : ℕ) → v ≡ get_or (plan_at words k).justifications j 0 → v ≡ 0 → length (plan_at words k).justifications ≤ suc j → length (plan_at words k).justifications ≤ j
+no_last words k j v e z f = justifications_last words k j (sym e ∙ z) f
+
 pub returns-then-plan_justification-ne0 : goal.returns-then-plan_justification-ne0
 returns-then-plan_justification-ne0 c =
     let a = c.args in
