@@ -93,9 +93,9 @@ fn plan_goes(words: &[u32], atoms: u32, target: u32, left: &[bool], i: usize, gu
     atom_gone(words, atoms, target, left, fourth, guess)
 }
 
-// Plan i goes or stays; if it goes, its subgoal goes with it. No atom has id 0, so that a plan without a subgoal asks no search.
+// Plan i goes or stays; if it goes, its subgoal goes with it.
 fn visit(words: &[u32], atoms: u32, target: u32, left: &mut [bool], i: usize, near: Near) -> Near
-    requires { (length words.now ≡ 2432) × (atoms ≤ 256) × AtomsRise atoms words.now × (length left.old ≡ 320) × (i < 64) × (atoms ≤ index_of 0 (atom_ids_of atoms words.now)) }
+    requires { (length words.now ≡ 2432) × (atoms ≤ 256) × AtomsRise atoms words.now × (length left.old ≡ 320) × (i < 64) }
     ensures { left.new ≡ visited words.now atoms target i left.old }
 {
     if !plan_goes(words, atoms, target, left, i, near.first) {
@@ -105,12 +105,6 @@ fn visit(words: &[u32], atoms: u32, target: u32, left: &mut [bool], i: usize, ne
     let justification = state::plan_justification(words, i, 0);
     let first = state::find_near(words, atoms, justification, near.first);
     let id = state::plan_subgoal(words, i);
-    if id == 0 {
-        return Near {
-            first: first,
-            subgoal: near.subgoal,
-        };
-    }
     let subgoal = mark_atom(words, atoms, left, id, near.subgoal);
     Near {
         first: first,

@@ -81,7 +81,7 @@ module _ (words : List ℕ) (s : Scalars) (r : Row) (i a b : Wanted) where
       at false f false g false m false n = absurd (no_plans r.op h k j f g m n)
 
   -- an atom at another place than its id's; the candidate of a plan at another
-  atom_other : i.known ≡ true → AtomsRise s.atoms words → within 1 2 r.op ≡ true → (k : ℕ) → k ≡ index_of i.number (atom_ids_of s.atoms words) →
+  pub atom_other : i.known ≡ true → AtomsRise s.atoms words → within 1 2 r.op ≡ true → (k : ℕ) → k ≡ index_of i.number (atom_ids_of s.atoms words) →
       (c : ℕ) → c < s.atoms → c ≢ k → Missed i a b (candidate_at words s r c)
   unfolding candidate_at
   atom_other e rise o k is c p q =
@@ -89,7 +89,7 @@ module _ (words : List ℕ) (s : Scalars) (r : Row) (i a b : Wanted) where
       let u = unlike_other i (atom_at words c).id e d in
       rw o (missed_id i a b (eqb (atom_at words c).p r.p) (atom_at words c).id (atom_at words c).a (atom_at words c).b u)
 
-  plan_other : i.known ≡ true → PlansRise s.plans words → 3 ≤ r.op → r.op ≤ 12 → within 7 8 r.op ≡ false →
+  pub plan_other : i.known ≡ true → PlansRise s.plans words → 3 ≤ r.op → r.op ≤ 12 → within 7 8 r.op ≡ false →
       (k : ℕ) → k ≡ index_of i.number (plan_ids_of s.plans words) → (c : ℕ) → c < s.plans → c ≢ k → Missed i a b (candidate_at words s r c)
   plan_other e rise h u j k is c p q = plan_missed c h u j (unlike_plan i words s.plans e rise k is c p q)
 

@@ -4,3 +4,4 @@ pub mod Unlike
 pub mod Answers
 pub mod Skips
 pub mod Halves
+pub mod Leaps

@@ -324,6 +324,21 @@ pub fn skip_atoms(words: &[u32], p: u32, a: Wanted, b: Wanted, from: usize, n: u
     pass_ones(words, p, y, v, z, w, c, n)
 }
 
+fn skip_plans(words: &[u32], i: Wanted, a: Wanted, b: Wanted, from: usize, n: usize) -> usize
+    requires { (length words.now ≡ 2432) × (n ≤ 64) }
+    ensures { Skipped (λ c. plan_candidate (plan_at words.now c)) i a b from result }
+{
+    let mut c = from;
+    while c < n {
+        let x = plan_candidate(words, c);
+        if is_like(i, a, b, x) {
+            return c;
+        }
+        c += 1;
+    }
+    c
+}
+
 fn skip_remainders(words: &[u32], i: Wanted, a: Wanted, b: Wanted, from: usize, n: usize) -> usize
     requires { (length words.now ≡ 2432) × (n ≤ 64) }
     ensures { Skipped (λ c. remainder_candidate (plan_at words.now c)) i a b from result }
@@ -422,7 +437,21 @@ fn skip_justifications(words: &[u32], i: Wanted, a: Wanted, from: usize, n: usiz
     c
 }
 
-// The next number to look at for the justifications of plan k, four numbers that stand nowhere else; n where they are past.
+// The next place to look at for what stands at one place only, or nowhere: then that place is n.
+fn leap(from: usize, at: usize, n: usize) -> usize
+    requires { at ≤ n }
+    ensures { (from ≤ result) × ((c : ℕ) → from ≤ c → c < result → (c < n) × (c ≢ at)) }
+{
+    if from <= at {
+        return at;
+    }
+    if from < n {
+        return n;
+    }
+    from
+}
+
+// The same for what has four numbers, as the justifications of plan k.
 fn leap_four(from: usize, k: usize, n: usize) -> usize
     requires { (k * 4 ≤ n) × (n ≤ 256) }
     ensures { (from ≤ result) × ((c : ℕ) → from ≤ c → c < result → (c < n) × (c / 4 ≢ k)) }
@@ -460,17 +489,30 @@ pub fn behind(words: &[u32], s: Scalars, r: Row, i: Wanted) -> usize
     k + 1
 }
 
-// The first justification from `from` on of the plan that is wanted.
-fn skip_to_plan(words: &[u32], s: Scalars, i: Wanted, from: usize) -> usize
+// An id that is wanted is found by halves, since ids rise; no candidate with another id fits.
+fn skip_wanted(words: &[u32], s: Scalars, r: Row, i: Wanted, from: usize) -> usize
     requires { Limits words.now s × (i.known ≡ true) }
-    ensures { (a b : Wanted) → Skipped (λ c. justification_candidate (plan_at words.now (c / 4)) (c % 4)) i a b from result }
+    ensures { (a b : Wanted) → Skipped (candidate_at words.now s r) i a b from result }
 {
+    let op = r.op;
+    if (1 <= op) & (op <= 2) {
+        let k = state::find_atom(words, s.atoms, i.number);
+        return leap(from, k, s.atoms as usize);
+    }
+    if op < 3 {
+        return from;
+    }
+    if 12 < op {
+        return from;
+    }
     let k = state::find_plan(words, s.plans, i.number);
-    leap_four(from, k, s.plans as usize * 4)
+    if (7 <= op) & (op <= 8) {
+        return leap_four(from, k, s.plans as usize * 4);
+    }
+    leap(from, k, s.plans as usize)
 }
 
-// The first candidate of a row from `from` on that may fit: the kind of candidate is chosen once for all that are passed over. Atoms, plans
-// and what is found by its id have a way of their own.
+// The first candidate of a row from `from` on that may fit: the kind of candidate is chosen once for all that are passed over.
 pub fn skip(
     words: &[u32],
     s: Scalars,
@@ -483,17 +525,20 @@ pub fn skip(
     requires { Limits words.now s }
     ensures { Skipped (candidate_at words.now s r) i a b from result }
 {
+    if i.known {
+        return skip_wanted(words, s, r, i, from);
+    }
     let op = r.op;
-    if op < 5 {
-        return from;
+    if (1 <= op) & (op <= 2) {
+        return skip_atoms(words, r.p, a, b, from, s.atoms as usize);
+    }
+    if (3 <= op) & (op <= 4) {
+        return skip_plans(words, i, a, b, from, s.plans as usize);
     }
     if (5 <= op) & (op <= 6) {
         return skip_remainders(words, i, a, b, from, s.plans as usize);
     }
     if (7 <= op) & (op <= 8) {
-        if i.known {
-            return skip_to_plan(words, s, i, from);
-        }
         return skip_justifications(words, i, a, from, s.plans as usize * 4);
     }
     if (9 <= op) & (op <= 10) {

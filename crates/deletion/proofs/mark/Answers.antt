@@ -35,7 +35,6 @@ visit-near-requires c =
       sound_atoms_rise a.words.now a.scalars h.sound,
       c.loop-i.invariant.1.marked.long,
       omega (arith, h.few_plans),
-      no_atom_zero a.words.now a.scalars h,
     )
 
 pub loop-i-preserved : goal.loop-i-preserved

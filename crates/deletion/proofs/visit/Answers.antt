@@ -1,4 +1,4 @@
--- A plan that stays changes nothing; for one that goes its own mark and that of its subgoal are cleared. No atom has id 0.
+-- A plan that stays changes nothing; for one that goes its own mark and that of its subgoal are cleared.
 use mathlib.Core.Path.{◌∙◌, ap, sym, refl}
 use mathlib.Core.Bool.{Bool, false}
 use mathlib.Core.List.{List}
@@ -16,15 +16,6 @@ pub returns-then-not-plan_goes : goal.returns-then-not-plan_goes
 returns-then-not-plan_goes c =
     let a = c.args in
     visited_stays a.words.now a.atoms a.target a.i a.left.now (sym c.if-not-plan_goes.true ∙ c.plan_goes.ensures)
-
-pub returns-then-id-eq0 : goal.returns-then-id-eq0
-returns-then-id-eq0 c =
-    let a = c.args in
-    let W : List ℕ = a.words.now in
-    let L : List Bool = set a.left.now (256 + a.i) false in
-    atom_missing W a.atoms 0 L (index_of 0 (atom_ids_of a.atoms W)) refl c.requires.5
-    ∙ ap (λ (x : ℕ). without_atom W a.atoms x L) (sym c.if-id-eq0.true ∙ c.plan_subgoal-id.ensures)
-    ∙ visited_goes W a.atoms a.target a.i a.left.now (sym c.if-not-plan_goes.false ∙ c.plan_goes.ensures)
 
 pub shape_of-left : goal.shape_of-left
 shape_of-left c =

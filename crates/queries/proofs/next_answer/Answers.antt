@@ -35,9 +35,9 @@ returns-then-next_fit-eq0 c =
     let w = one_wide a.r z a.s in record {
       sized = e.sized;
       is = record {
-          is = ap (λ (n : ℕ). answers a.words.now a.s a.r f n) first ∙ negation_holds _ _ _ _ z _ _ e.is.is c.if-next_fit-eq0.true
-              ∙ ap {B = List Found} (λ (g : Found). g ∷ answers a.words.now a.s a.r f 1) (found_still a.r z _ _ _ _ _ (e.back c.if-next_fit-eq0.true) e.kept);
-          further = λ _. (omega arith, omega arith);
+        is = ap (λ (n : ℕ). answers a.words.now a.s a.r f n) first ∙ negation_holds _ _ _ _ z _ _ e.is.is c.if-next_fit-eq0.true
+            ∙ ap {B = List Found} (λ (g : Found). g ∷ answers a.words.now a.s a.r f 1) (found_still a.r z _ _ _ _ _ (e.back c.if-next_fit-eq0.true) e.kept);
+        further = λ _. (omega arith, omega arith);
       };
       back = λ q. absurd (omega (arith, q));
       kept = e.kept;
@@ -52,8 +52,8 @@ returns c =
     let first : a.c ≡ 0 = let h = c.if-c-gt0.false in omega arith in record {
       sized = (sym (ap length c.requires.3) ∙ c.requires.2.0, e.sized.1);
       is = record {
-          is = ap (λ (n : ℕ). answers a.words.now a.s a.r f n) first ∙ negation_fails _ _ _ _ z _ _ e.is.is c.if-next_fit-eq0.false;
-          further = λ q. absurd (q refl);
+        is = ap (λ (n : ℕ). answers a.words.now a.s a.r f n) first ∙ negation_fails _ _ _ _ z _ _ e.is.is c.if-next_fit-eq0.false;
+        further = λ q. absurd (q refl);
       };
       back = λ _. refl;
       kept = e.kept;

@@ -29,11 +29,11 @@ returns-then-take c =
     let on = i.3 in record {
       sized = c.take.ensures.sized;
       is = record {
-          is = i.4
-              ∙ hits_one _ _ _ _ _ (omega arith) c.atom_candidate-x.result (c.atom_candidate-x.ensures ∙ atom_at_number a.s a.r c.requires.4 c.requires.5 _ _) c.take.result _
-              (c.take.ensures.is ∙ ap (tried a.r c.atom_candidate-x.result) (same_found c.loop-c.values a.before c.loop-c.matched a.matched.now a.count i.1 i.2)) c.if-take.true
-              ∙ sym (onward_one (hits a.words.now a.s a.r (found_in a.before a.matched.now a.count)) _ _ (λ z. omega (arith, z)));
-          further = λ _. (omega arith, omega arith);
+        is = i.4
+            ∙ hits_one _ _ _ _ _ (omega arith) c.atom_candidate-x.result (c.atom_candidate-x.ensures ∙ atom_at_number a.s a.r c.requires.4 c.requires.5 _ _) c.take.result _
+            (c.take.ensures.is ∙ ap (tried a.r c.atom_candidate-x.result) (same_found c.loop-c.values a.before c.loop-c.matched a.matched.now a.count i.1 i.2)) c.if-take.true
+            ∙ sym (onward_one (hits a.words.now a.s a.r (found_in a.before a.matched.now a.count)) _ _ (λ z. omega (arith, z)));
+        further = λ _. (omega arith, omega arith);
       };
       back = λ z. absurd (omega (arith, z));
       kept = c.take.ensures.kept ∙ i.2;

@@ -31,9 +31,9 @@ returns-then-take c =
     let same-found : ◌≡◌ {A = Found} (found_in a.values.now a.matched.now a.count) f = rw p.3 in record {
       sized = c.take.ensures.sized;
       is = record {
-          is = alone_fits a.words.now a.s a.r f a.i _ p.4 c.behind-c.ensures _ h c.candidate_at-x.result c.candidate_at-x.ensures c.take.result _
-              (c.take.ensures.is ∙ ap (tried a.r c.candidate_at-x.result) same-found) c.if-take.true;
-          further = λ _. (omega arith, omega arith);
+        is = alone_fits a.words.now a.s a.r f a.i _ p.4 c.behind-c.ensures _ h c.candidate_at-x.result c.candidate_at-x.ensures c.take.result _
+            (c.take.ensures.is ∙ ap (tried a.r c.candidate_at-x.result) same-found) c.if-take.true;
+        further = λ _. (omega arith, omega arith);
       };
       back = λ z. absurd (omega (arith, z));
       kept = c.take.ensures.kept;
@@ -48,9 +48,9 @@ returns c =
     let same-found : ◌≡◌ {A = Found} (found_in a.values.now a.matched.now a.count) f = rw p.3 in record {
       sized = (sym (ap length p.3) ∙ p.2.0, c.take.ensures.sized.1);
       is = record {
-          is = alone_fails a.words.now a.s a.r f a.i _ p.4 c.behind-c.ensures _ h c.candidate_at-x.result c.candidate_at-x.ensures c.take.result _
-              (c.take.ensures.is ∙ ap (tried a.r c.candidate_at-x.result) same-found) c.if-take.false;
-          further = λ z. absurd (z refl);
+        is = alone_fails a.words.now a.s a.r f a.i _ p.4 c.behind-c.ensures _ h c.candidate_at-x.result c.candidate_at-x.ensures c.take.result _
+            (c.take.ensures.is ∙ ap (tried a.r c.candidate_at-x.result) same-found) c.if-take.false;
+        further = λ z. absurd (z refl);
       };
       back = λ _. refl;
       kept = c.take.ensures.kept;
