@@ -8,7 +8,7 @@ use borrow.Author.Rules.{rules}
 use Rattle.causes.proofs.standing.Goals as goal
 
 pub returns-then-not-may_stand : goal.returns-then-not-may_stand
-returns-then-not-may_stand c = (refl, c.place_of-place.ensures, sym c.may_stand.ensures ∙ not-true _ c.if-not-may_stand.true)
+returns-then-not-may_stand c = (refl, c.place_of-place.ensures, sym c.may_stand.ensures ∙ c.if-not-may_stand.true)
 
 pub returns : goal.returns
 returns c =
@@ -16,5 +16,5 @@ returns c =
       rule_0 = c.if-has_rule.false;
       part_0 = c.if-has_part.false;
       part = c.if-no_part.false;
-      op = subst (λ (place : ℕ). may_stand place c.args.r.op ≡ true) c.place_of-place.ensures (sym c.may_stand.ensures ∙ not-false _ c.if-not-may_stand.false);
+      op = subst (λ (place : ℕ). may_stand place c.args.r.op ≡ true) c.place_of-place.ensures (sym c.may_stand.ensures ∙ c.if-not-may_stand.false);
     }

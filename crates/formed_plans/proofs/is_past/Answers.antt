@@ -12,10 +12,10 @@ use Rattle.formed_plans.proofs.Words.{past_absent}
 use Rattle.formed_plans.proofs.is_past.Goals as goal
 
 pub returns-then-n-eq0 : goal.returns-then-n-eq0
-returns-then-n-eq0 c = rw c.if-n-eq0.true
+returns-then-n-eq0 c = λ t. rw c.if-n-eq0.true
 
 pub returns : goal.returns
 returns c =
-    let a = c.args in
+    λ t. let a = c.args in
     let e : ltb (atom_at a.words.now (a.atoms - 1)).id a.id ≡ true = ap (λ (y : Atom). ltb y.id a.id) (sym c.atom_at-last.ensures) ∙ t in
     past_absent a.words.now a.atoms (a.atoms - 1) a.id c.requires (omega (arith, c.if-n-eq0.false)) (ltb-true _ _ e)
