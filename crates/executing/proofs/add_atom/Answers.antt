@@ -16,7 +16,10 @@ pub returns-then-bar-ne0 : goal.returns-then-bar-ne0
 returns-then-bar-ne0 c =
     let a = c.args in
     let bar = c.room_for_atom-bar in
-    (answers_refused a.words.now a.scalars bar.result c.barred.result _ c.barred.ensures (make_barred a.words.now a.scalars a.p a.a a.b _ bar.result bar.ensures c.if-bar-ne0.true), λ z. refl)
+    record {
+      result_after = answers_refused a.words.now a.scalars bar.result c.barred.result _ c.barred.ensures (make_barred a.words.now a.scalars a.p a.a a.b _ bar.result bar.ensures c.if-bar-ne0.true);
+      untouched = λ z. refl;
+    }
 
 pub append_atom-made-requires : goal.append_atom-made-requires
 append_atom-made-requires c =
@@ -31,7 +34,7 @@ done-requires c =
     let bar = c.room_for_atom-bar in
     let f = room a.words.now a.scalars a.p a.a a.b 0 bar.result bar.ensures c.if-bar-ne0.false c.requires.next_fits in
     let m = c.append_atom-made in
-    due_added a.words.now a.scalars a.k c.requires m.new.0 (m.auto.0 ∙ c.requires.whole.long) m.result m.ensures.0 f.0 a.p a.a a.b m.ensures.1 f.1
+    due_added a.words.now a.scalars a.k c.requires m.new.words (m.auto.words ∙ c.requires.whole.long) m.result m.ensures.counted f.0 a.p a.a a.b m.ensures.made f.1
 
 pub returns : goal.returns
 returns c =
@@ -40,13 +43,13 @@ returns c =
     let bar = c.room_for_atom-bar in
     let f = room W a.scalars a.p a.a a.b 0 bar.result bar.ensures c.if-bar-ne0.false c.requires.next_fits in
     let m = c.append_atom-made in
-    let X = m.new.0 in
+    let X = m.new.words in
     let C : Config = config_of W a.scalars in
     let A : Config = add_atom a.p a.a a.b C in
     let i : ℕ = (plan_at W a.k).id in
-    let same : (plan_at X a.k).id ≡ i = ap (λ (q : Plan). q.id) (plan_same W a.scalars a.k c.requires X (m.auto.0 ∙ c.requires.whole.long) m.result m.ensures.0 f.0 a.p a.a a.b m.ensures.1) in
-    let r = c.done in (
-      answers_after C r.new.0 r.result a.p a.a a.b i m.result.next (make_free W a.scalars a.p a.a a.b i bar.result bar.ensures c.if-bar-ne0.false)
-          (r.ensures.0 ∙ ap (λ (d : Config). answer_of d (succeed (plan_at X a.k).id (begin d))) m.ensures.1 ∙ ap (λ (n : ℕ). answer_of A (succeed n (begin A))) same),
-      λ z. absurd (z r.ensures.1),
-    )
+    let same : (plan_at X a.k).id ≡ i = ap (λ (q : Plan). q.id) (plan_same W a.scalars a.k c.requires X (m.auto.words ∙ c.requires.whole.long) m.result m.ensures.counted f.0 a.p a.a a.b m.ensures.made) in
+    let r = c.done in record {
+      result_after = answers_after C r.new.words r.result a.p a.a a.b i m.result.next (make_free W a.scalars a.p a.a a.b i bar.result bar.ensures c.if-bar-ne0.false)
+          (r.ensures.result_after ∙ ap (λ (d : Config). answer_of d (succeed (plan_at X a.k).id (begin d))) m.ensures.made ∙ ap (λ (n : ℕ). answer_of A (succeed n (begin A))) same);
+      untouched = λ z. absurd (z r.ensures.number);
+    }

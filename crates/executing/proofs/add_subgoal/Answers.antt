@@ -17,7 +17,10 @@ pub returns-then-bar-ne0 : goal.returns-then-bar-ne0
 returns-then-bar-ne0 c =
     let a = c.args in
     let bar = c.room_for_atom-bar in
-    (answers_refused a.words.now a.scalars bar.result c.barred.result _ c.barred.ensures (subgoal_barred a.words.now a.scalars a.p a.a a.b _ bar.result bar.ensures c.if-bar-ne0.true), λ z. refl)
+    record {
+      result_after = answers_refused a.words.now a.scalars bar.result c.barred.result _ c.barred.ensures (subgoal_barred a.words.now a.scalars a.p a.a a.b _ bar.result bar.ensures c.if-bar-ne0.true);
+      untouched = λ z. refl;
+    }
 
 pub add_subgoal-made-requires : goal.add_subgoal-made-requires
 add_subgoal-made-requires c =
@@ -32,7 +35,7 @@ set_flag-requires c =
     let bar = c.room_for_atom-bar in
     let f = room a.words.now a.scalars a.p a.a a.b 0 bar.result bar.ensures c.if-bar-ne0.false c.requires.next_fits in
     let m = c.add_subgoal-made in
-    let l = live_linked a.words.now a.scalars a.k c.requires m.new.0 (m.auto.0 ∙ c.requires.whole.long) m.result m.ensures.0 f.0 a.p a.a a.b m.ensures.1 in
+    let l = live_linked a.words.now a.scalars a.k c.requires m.new.words (m.auto.words ∙ c.requires.whole.long) m.result m.ensures.counted f.0 a.p a.a a.b m.ensures.made in
     (l.0, l.1, omega arith, omega arith)
 
 pub returns : goal.returns
@@ -42,14 +45,14 @@ returns c =
     let bar = c.room_for_atom-bar in
     let f = room W a.scalars a.p a.a a.b 0 bar.result bar.ensures c.if-bar-ne0.false c.requires.next_fits in
     let m = c.add_subgoal-made in
-    let X = m.new.0 in
+    let X = m.new.words in
     let C : Config = config_of W a.scalars in
     let i : ℕ = (plan_at W a.k).id in
-    let same : (plan_at X a.k).id ≡ i = ap (λ (q : Plan). q.id) (plan_linked W a.scalars a.k c.requires X (m.auto.0 ∙ c.requires.whole.long) m.result m.ensures.0 f.0 a.p a.a a.b m.ensures.1) in (
-      answers C c.set_flag.new.0 m.result 0 (executed c.plan_id-plan.result Log.done) _
+    let same : (plan_at X a.k).id ≡ i = ap (λ (q : Plan). q.id) (plan_linked W a.scalars a.k c.requires X (m.auto.words ∙ c.requires.whole.long) m.result m.ensures.counted f.0 a.p a.a a.b m.ensures.made) in record {
+      result_after = answers C c.set_flag.new.words m.result 0 (executed c.plan_id-plan.result Log.done) _
           (report (executed i Log.done) (quiet (set_stepped i) (emit_subgoal i a.p a.a a.b (begin C))))
           (subgoal_free W a.scalars a.p a.a a.b i bar.result bar.ensures c.if-bar-ne0.false)
           (ap (λ (n : ℕ). executed n Log.done) c.plan_id-plan.ensures)
-          (c.set_flag.ensures ∙ ap (λ (n : ℕ). set_stepped n (config_of X m.result)) same ∙ ap (set_stepped i) m.ensures.1) refl,
-      λ z. absurd (z refl),
-    )
+          (c.set_flag.ensures ∙ ap (λ (n : ℕ). set_stepped n (config_of X m.result)) same ∙ ap (set_stepped i) m.ensures.made) refl;
+      untouched = λ z. absurd (z refl);
+    }

@@ -32,4 +32,4 @@ pub shape_of-words : goal.shape_of-words
 shape_of-words c = c.loop-k.invariant.long ∙ sym c.requires.0
 
 pub returns : goal.returns
-returns c = (c.loop-k.invariant.atoms, clearing_end c.args.words.now c.loop-k.words c.loop-k.k c.loop-k.invariant c.args.plans (omega arith))
+returns c = record { atoms = c.loop-k.invariant.atoms; plans = clearing_end c.args.words.now c.loop-k.words c.loop-k.k c.loop-k.invariant c.args.plans (omega arith) }

@@ -25,10 +25,10 @@ returns-then-scalars-i c =
     let a = c.args in
     let W = a.words.now in
     let x = c.find_atom-i in
-    let none = le-ltb x.result a.scalars.atoms c.if-scalars-i.true in (
-      c.failed.ensures.0 ∙ ap (answer_of (config_of W a.scalars)) (sym (delete_fails W a.scalars (plan_at W a.k).id a.id x.result x.ensures none)),
-      c.failed.ensures.1,
-    )
+    let none = le-ltb x.result a.scalars.atoms c.if-scalars-i.true in record {
+      result_after = c.failed.ensures.result_after ∙ ap (answer_of (config_of W a.scalars)) (sym (delete_fails W a.scalars (plan_at W a.k).id a.id x.result x.ensures none));
+      number = c.failed.ensures.number;
+    }
 
 pub succeed-requires : goal.succeed-requires
 succeed-requires c = let a = c.args in due_live a.words.now a.scalars a.k c.requires
@@ -37,7 +37,7 @@ pub remove-r-requires : goal.remove-r-requires
 remove-r-requires c =
     let a = c.args in
     let r = c.succeed in
-    sound_stepped a.words.now a.scalars a.k c.requires r.new.0 (r.auto.0 ∙ c.requires.whole.long) r.ensures
+    sound_stepped a.words.now a.scalars a.k c.requires r.new.words (r.auto.words ∙ c.requires.whole.long) r.ensures
 
 pub returns : goal.returns
 returns c =
@@ -50,13 +50,13 @@ returns c =
     let e = c.succeed.ensures in
     let r = c.remove-r in
     let gone : r.result.gone ≡ 0 + gone_by (graph (set_stepped i (remove_step i C))) (deletion a.id) =
-    r.ensures.1.1 ∙ ap (λ (d : Config). gone_by (graph d) (deletion a.id)) e ∙ nothing_more (gone_by (graph (set_stepped i (remove_step i C))) (deletion a.id)) in (
-      answers C r.new.0 r.result.scalars r.result.gone (executed c.plan_id-plan.result Log.done) _
+    r.ensures.counted ∙ ap (λ (d : Config). gone_by (graph d) (deletion a.id)) e ∙ nothing_more (gone_by (graph (set_stepped i (remove_step i C))) (deletion a.id)) in record {
+      result_after = answers C r.new.words r.result.scalars r.result.gone (executed c.plan_id-plan.result Log.done) _
           (emit_deletion a.id (report (executed i Log.done) (quiet (λ d. set_stepped i (remove_step i d)) (begin C))))
           (delete_goes W a.scalars i a.id x.result x.ensures there)
-          (ap (λ (n : ℕ). executed n Log.done) c.plan_id-plan.ensures) (r.ensures.1.0 ∙ ap (remove a.id) e) gone,
-      refl,
-    )
+          (ap (λ (n : ℕ). executed n Log.done) c.plan_id-plan.ensures) (r.ensures.removed ∙ ap (remove a.id) e) gone;
+      number = refl;
+    }
   where
     nothing_more : (n : ℕ) → n ≡ 0 + n
     nothing_more n = omega arith

@@ -18,8 +18,8 @@ unfolding succeed
 returns c =
     let a = c.args in
     let C = config_of a.words.now a.scalars in
-    let i = (plan_at a.words.now a.k).id in (
-      answers C c.succeed.new.0 a.scalars 0 (executed c.plan_id-plan.result Log.done) _ (report (executed i Log.done) (quiet (λ d. set_stepped i (remove_step i d)) (begin C))) refl
-          (ap (λ (n : ℕ). executed n Log.done) c.plan_id-plan.ensures) c.succeed.ensures refl,
-      refl,
-    )
+    let i = (plan_at a.words.now a.k).id in record {
+      result_after = answers C c.succeed.new.words a.scalars 0 (executed c.plan_id-plan.result Log.done) _ (report (executed i Log.done) (quiet (λ d. set_stepped i (remove_step i d)) (begin C))) refl
+          (ap (λ (n : ℕ). executed n Log.done) c.plan_id-plan.ensures) c.succeed.ensures refl;
+      number = refl;
+    }

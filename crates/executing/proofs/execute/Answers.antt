@@ -31,7 +31,10 @@ returns-then-scalars-k c =
     let x = c.first_due-k in
     let q : Plan = plan_at a.words.now x.result in
     let r = c.end_cycle in
-    (r.ensures.0 ∙ ap (answer_of C) (sym (none_due (rows_of a.program.now) C (keep is_due C.plans) q (ltb x.result a.scalars.plans) x.ensures (le-ltb x.result a.scalars.plans c.if-scalars-k.true))), r.ensures.1)
+    record {
+      result_after = r.ensures.result_after ∙ ap (answer_of C) (sym (none_due (rows_of a.program.now) C (keep is_due C.plans) q (ltb x.result a.scalars.plans) x.ensures (le-ltb x.result a.scalars.plans c.if-scalars-k.true)));
+      untouched = r.ensures.untouched;
+    }
 
 pub execute_plan-requires : goal.execute_plan-requires
 execute_plan-requires c =
@@ -53,4 +56,7 @@ returns c =
     let x = c.first_due-k in
     let q : Plan = plan_at a.words.now x.result in
     let r = c.execute_plan in
-    (r.ensures.0 ∙ ap (answer_of C) (sym (first_due (rows_of a.program.now) C (keep is_due C.plans) q (ltb x.result a.scalars.plans) x.ensures (lt-ltb x.result a.scalars.plans c.if-scalars-k.false))), r.ensures.1)
+    record {
+      result_after = r.ensures.result_after ∙ ap (answer_of C) (sym (first_due (rows_of a.program.now) C (keep is_due C.plans) q (ltb x.result a.scalars.plans) x.ensures (lt-ltb x.result a.scalars.plans c.if-scalars-k.false)));
+      untouched = r.ensures.untouched;
+    }

@@ -19,7 +19,10 @@ returns-then-not-x c =
     let R : List Row = remainder (rows_of a.program.now) q in
     let x = c.next_step-x in
     let r = c.pass_over in
-    (r.ensures.0 ∙ ap (answer_of C) (sym (plan_empty q R (begin C) x.result.row x.result.found x.ensures (not-true x.result.found c.if-not-x.true))), λ z. absurd (z r.ensures.1))
+    record {
+      result_after = r.ensures.result_after ∙ ap (answer_of C) (sym (plan_empty q R (begin C) x.result.row x.result.found x.ensures (not-true x.result.found c.if-not-x.true)));
+      untouched = λ z. absurd (z r.ensures.number);
+    }
 
 pub returns-then-plan_subgoal-ne0 : goal.returns-then-plan_subgoal-ne0
 returns-then-plan_subgoal-ne0 c =
@@ -29,7 +32,10 @@ returns-then-plan_subgoal-ne0 c =
     let R : List Row = remainder (rows_of a.program.now) q in
     let x = c.next_step-x in
     let r = c.pass_over-then-plan_subgoal-ne0 in
-    (r.ensures.0 ∙ ap (answer_of C) (sym (plan_held q R (begin C) x.result.row x.result.found x.ensures (not-false x.result.found c.if-not-x.false) (λ z. c.if-plan_subgoal-ne0.true (c.plan_subgoal.ensures ∙ z)))), λ z. absurd (z r.ensures.1))
+    record {
+      result_after = r.ensures.result_after ∙ ap (answer_of C) (sym (plan_held q R (begin C) x.result.row x.result.found x.ensures (not-false x.result.found c.if-not-x.false) (λ z. c.if-plan_subgoal-ne0.true (c.plan_subgoal.ensures ∙ z))));
+      untouched = λ z. absurd (z r.ensures.number);
+    }
 
 pub returns : goal.returns
 returns c =
@@ -39,4 +45,7 @@ returns c =
     let R : List Row = remainder (rows_of a.program.now) q in
     let x = c.next_step-x in
     let r = c.take_step in
-    (r.ensures.0 ∙ ap (answer_of C) (sym (plan_steps q R (begin C) x.result.row x.result.found x.ensures (not-false x.result.found c.if-not-x.false) (sym c.plan_subgoal.ensures ∙ c.if-plan_subgoal-ne0.false))), r.ensures.1)
+    record {
+      result_after = r.ensures.result_after ∙ ap (answer_of C) (sym (plan_steps q R (begin C) x.result.row x.result.found x.ensures (not-false x.result.found c.if-not-x.false) (sym c.plan_subgoal.ensures ∙ c.if-plan_subgoal-ne0.false)));
+      untouched = r.ensures.untouched;
+    }

@@ -18,8 +18,8 @@ unfolding fail
 returns c =
     let a = c.args in
     let C = config_of a.words.now a.scalars in
-    let i = (plan_at a.words.now a.k).id in (
-      answers C c.fail.new.0 a.scalars 0 (executed c.plan_id-plan.result Log.failed) _ (report (executed i Log.failed) (quiet (λ d. set_stepped i (set_failed i d)) (begin C))) refl
-          (ap (λ (n : ℕ). executed n Log.failed) c.plan_id-plan.ensures) c.fail.ensures refl,
-      refl,
-    )
+    let i = (plan_at a.words.now a.k).id in record {
+      result_after = answers C c.fail.new.words a.scalars 0 (executed c.plan_id-plan.result Log.failed) _ (report (executed i Log.failed) (quiet (λ d. set_stepped i (set_failed i d)) (begin C))) refl
+          (ap (λ (n : ℕ). executed n Log.failed) c.plan_id-plan.ensures) c.fail.ensures refl;
+      number = refl;
+    }

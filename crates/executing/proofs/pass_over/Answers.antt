@@ -19,8 +19,8 @@ unfolding pass_over
 returns c =
     let a = c.args in
     let C = config_of a.words.now a.scalars in
-    let i = (plan_at a.words.now a.k).id in (
-      answers C c.set_flag.new.0 a.scalars 0 (executed c.plan_id-plan.result (how_of a.how)) _ (report (executed i (how_of a.how)) (quiet (set_stepped i) (begin C))) refl
-          (ap (λ (n : ℕ). executed n (how_of a.how)) c.plan_id-plan.ensures) c.set_flag.ensures refl,
-      refl,
-    )
+    let i = (plan_at a.words.now a.k).id in record {
+      result_after = answers C c.set_flag.new.words a.scalars 0 (executed c.plan_id-plan.result (how_of a.how)) _ (report (executed i (how_of a.how)) (quiet (set_stepped i) (begin C))) refl
+          (ap (λ (n : ℕ). executed n (how_of a.how)) c.plan_id-plan.ensures) c.set_flag.ensures refl;
+      number = refl;
+    }

@@ -14,7 +14,7 @@ pub is_ceiling-requires : goal.is_ceiling-requires
 is_ceiling-requires c = search (rules, row_inside)
 
 pub loop-k-preserved-then-not-is_ceiling : goal.loop-k-preserved-then-not-is_ceiling
-loop-k-preserved-then-not-is_ceiling c = let l = c.loop-k in let h = c.loop-k-test.true in (looked_bare _ l.from l.to l.k (sym c.is_ceiling.ensures ∙ not-true _ c.if-not-is_ceiling.true) l.invariant.0, omega arith)
+loop-k-preserved-then-not-is_ceiling c = let l = c.loop-k in let h = c.loop-k-test.true in (looked_bare _ l.from l.to l.k (sym c.is_ceiling.ensures ∙ c.if-not-is_ceiling.true) l.invariant.0, omega arith)
 
 pub loop-k-preserved-then-to-eq0 : goal.loop-k-preserved-then-to-eq0
 loop-k-preserved-then-to-eq0 c = let l = c.loop-k in let P = c.args.program.now in let h = c.loop-k-test.true in (looked_first _ l.from l.k (subst (λ (m : ℕ). Looked P l.from m l.k) c.if-to-eq0.true l.invariant.0), omega arith)

@@ -14,10 +14,10 @@ pub loop-k-init : goal.loop-k-init
 loop-k-init c = let a = c.args in ap (every is_in_range) (readings_all a.rows.now (length a.rows.now / 4))
 
 pub returns-then-not-in_range : goal.returns-then-not-in_range
-returns-then-not-in_range c = sym (c.loop-k.invariant ∙ every_fails is_in_range c.args.rows.now c.loop-k.k _ (omega arith) (sym (c.in_range.ensures ∙ ap is_in_range c.reading_at.ensures) ∙ not-true _ c.if-not-in_range.true))
+returns-then-not-in_range c = sym (c.loop-k.invariant ∙ every_fails is_in_range c.args.rows.now c.loop-k.k _ (omega arith) (sym (c.in_range.ensures ∙ ap is_in_range c.reading_at.ensures) ∙ c.if-not-in_range.true))
 
 pub loop-k-preserved : goal.loop-k-preserved
-loop-k-preserved c = c.loop-k.invariant ∙ every_step is_in_range c.args.rows.now c.loop-k.k _ (omega arith) (sym (c.in_range.ensures ∙ ap is_in_range c.reading_at.ensures) ∙ not-false _ c.if-not-in_range.false)
+loop-k-preserved c = c.loop-k.invariant ∙ every_step is_in_range c.args.rows.now c.loop-k.k _ (omega arith) (sym (c.in_range.ensures ∙ ap is_in_range c.reading_at.ensures) ∙ c.if-not-in_range.false)
 
 pub returns : goal.returns
 returns c = sym (c.loop-k.invariant ∙ every_none is_in_range c.args.rows.now c.loop-k.k _ (omega arith))

@@ -19,15 +19,18 @@ pub sense_row-w-requires : goal.sense_row-w-requires
 sense_row-w-requires c = (c.loop-k.invariant.0.ready, c.ceilings_of-at.ensures)
 
 pub shape_of-words-then-w-ne0 : goal.shape_of-words-then-w-ne0
-shape_of-words-then-w-ne0 c = c.sense_row-w.auto.1.1.0 ∙ c.loop-k.invariant.0.ready.whole.long ∙ sym c.loop-k.invariant.3
+shape_of-words-then-w-ne0 c = c.sense_row-w.auto.words ∙ c.loop-k.invariant.0.ready.whole.long ∙ sym c.loop-k.invariant.3
 
 pub returns-then-w-ne0 : goal.returns-then-w-ne0
 returns-then-w-ne0 c =
     let a = c.args in
-    (at_barred (rows_of a.program.now) a.rows.now (length a.rows.now / 4) (config_of a.words.now a.scalars) c.loop-k.k c.loop-k.words c.loop-k.s c.loop-k.gone c.loop-k.invariant.0 (omega arith) _ c.reading_at.ensures c.sense_row-w.result.number _ _ _ c.if-w-ne0.true c.sense_row-w.ensures.0, λ z. absurd (c.if-w-ne0.true z))
+    record {
+      senses_rows = at_barred (rows_of a.program.now) a.rows.now (length a.rows.now / 4) (config_of a.words.now a.scalars) c.loop-k.k c.loop-k.words c.loop-k.s c.loop-k.gone c.loop-k.invariant.0 (omega arith) _ c.reading_at.ensures c.sense_row-w.result.number _ _ _ c.if-w-ne0.true c.sense_row-w.ensures.senses_row;
+      ready = λ z. absurd (c.if-w-ne0.true z);
+    }
 
 pub overflow_add-gone : goal.overflow_add-gone
-overflow_add-gone c = let g = c.sense_row-w.ensures.1.1 in omega (arith, c.loop-k.invariant.1, c.loop-k.invariant.2, c.loop-k.invariant.4)
+overflow_add-gone c = let g = c.sense_row-w.ensures.ready.1 in omega (arith, c.loop-k.invariant.1, c.loop-k.invariant.2, c.loop-k.invariant.4)
 
 pub overflow_add-k : goal.overflow_add-k
 overflow_add-k c = omega (arith, c.loop-k.invariant.2, c.loop-k.invariant.4)
@@ -36,8 +39,8 @@ pub loop-k-preserved : goal.loop-k-preserved
 loop-k-preserved c =
     let h = c.loop-k-test.true in
     let a = c.args in (
-      at_next (rows_of a.program.now) a.rows.now (length a.rows.now / 4) (config_of a.words.now a.scalars) c.loop-k.k c.loop-k.words c.loop-k.s c.loop-k.gone c.loop-k.invariant.0 (omega (arith, h)) _ c.reading_at.ensures c.sense_row-w.result.number c.sense_row-w.new.1.1.0 c.sense_row-w.result.scalars c.sense_row-w.result.gone c.if-w-ne0.false (c.sense_row-w.ensures.1.0 c.if-w-ne0.false) c.sense_row-w.ensures.0,
-      (let g = c.sense_row-w.ensures.1.1 in omega (arith, c.loop-k.invariant.1, h)),
+      at_next (rows_of a.program.now) a.rows.now (length a.rows.now / 4) (config_of a.words.now a.scalars) c.loop-k.k c.loop-k.words c.loop-k.s c.loop-k.gone c.loop-k.invariant.0 (omega (arith, h)) _ c.reading_at.ensures c.sense_row-w.result.number c.sense_row-w.new.words c.sense_row-w.result.scalars c.sense_row-w.result.gone c.if-w-ne0.false (c.sense_row-w.ensures.ready.0 c.if-w-ne0.false) c.sense_row-w.ensures.senses_row,
+      (let g = c.sense_row-w.ensures.ready.1 in omega (arith, c.loop-k.invariant.1, h)),
       c.loop-k.invariant.2,
       c.loop-k.invariant.3,
       omega (arith, h),
@@ -49,4 +52,7 @@ shape_of-words c = c.loop-k.invariant.0.ready.whole.long ∙ sym c.loop-k.invari
 pub returns : goal.returns
 returns c =
     let a = c.args in
-    (at_end (rows_of a.program.now) a.rows.now (length a.rows.now / 4) (config_of a.words.now a.scalars) c.loop-k.k c.loop-k.words c.loop-k.s c.loop-k.gone c.loop-k.invariant.0 (omega arith), λ z. c.loop-k.invariant.0.ready)
+    record {
+      senses_rows = at_end (rows_of a.program.now) a.rows.now (length a.rows.now / 4) (config_of a.words.now a.scalars) c.loop-k.k c.loop-k.words c.loop-k.s c.loop-k.gone c.loop-k.invariant.0 (omega arith);
+      ready = λ z. c.loop-k.invariant.0.ready;
+    }

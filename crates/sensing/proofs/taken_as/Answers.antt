@@ -12,15 +12,6 @@ use Rattle.sensing.specs.Sensing.{Bare}
 use lib.ListN.{length}
 use Rattle.sensing.proofs.Ceilings.{bare_first, bare_last}
 use Rattle.sensing.proofs.taken_as.Goals as goal
-use Rattle.sensing.proofs.taken_as.Goals.{After-applies}
-
--- the model's answer for the row that was read
-told : (c : After-applies) →
-    let a = c.args in
-    does-apply (reading_of a.reading) (row_at a.program.now c.loop-k.k) ≡ c.applies.result
-told c =
-    let a = c.args in
-    ap (does-apply (reading_of a.reading)) (sym c.row_at-r.ensures) ∙ sym c.applies.ensures
 
 pub loop-k-init : goal.loop-k-init
 loop-k-init c = (bare_first _ _ _ _ c.requires, c.requires.ordered, c.requires)
@@ -36,7 +27,7 @@ returns-then-applies c =
     let i = l.invariant.2.inside in
     c.constant.ensures
     ∙ ap (λ (r : Row). r.b - 9) c.row_at-r.ensures
-    ∙ sym (l.invariant.0 ∙ left_hit a.program.now (reading_of a.reading) l.k _ (omega arith) (told c.before.before ∙ c.if-applies.true))
+    ∙ sym (l.invariant.0 ∙ left_hit a.program.now (reading_of a.reading) l.k _ (omega arith) (ap (does-apply (reading_of a.reading)) (sym c.row_at-r.ensures) ∙ sym c.applies.ensures ∙ c.if-applies.true))
 
 pub overflow_add-k : goal.overflow_add-k
 overflow_add-k c = let i = c.loop-k.invariant.2.inside in search rules
@@ -47,7 +38,7 @@ loop-k-preserved c =
     let a = c.args in
     let h = c.loop-k-test.true in
     let i = l.invariant.2.inside in
-    (l.invariant.0 ∙ left_skip a.program.now (reading_of a.reading) l.k _ (omega arith) (told c.before ∙ c.if-applies.false), omega arith, l.invariant.2)
+    (l.invariant.0 ∙ left_skip a.program.now (reading_of a.reading) l.k _ (omega arith) (ap (does-apply (reading_of a.reading)) (sym c.row_at-r.ensures) ∙ sym c.applies.ensures ∙ c.if-applies.false), omega arith, l.invariant.2)
 
 pub returns : goal.returns
 returns c =

@@ -8,10 +8,14 @@ use Rattle.state.specs.View.{atom_at, config_of, SoundWords}
 use Rattle.model.specs.declared.Atom.{Atom}
 use Rattle.model.specs.Deletion.{graph, remove as removed}
 use Rattle.model.specs.Events.{gone_by, deletion}
-use Rattle.model.specs.Configuration.{equal_to}
+use Rattle.model.specs.Configuration.{Config, equal_to}
 use Rattle.sensing.proofs.Withdrawals.{Withdrawing, withdrawing_first, withdrawing_on, withdrawing_take, withdrawing_end, fewer}
 use Rattle.deletion.proofs.Sound.{counts_after}
 use Rattle.sensing.proofs.withdraw.Goals as goal
+
+-- a removal by the id that is seen
+removal_is : (C D : Config) (g t id : ℕ) → t ≡ id → D ≡ removed t C → g ≡ gone_by (graph C) (deletion t) → (D ≡ removed id C) × (g ≡ gone_by (graph C) (deletion id))
+removal_is C D g t id e l n = (l ∙ ap (λ (x : ℕ). removed x C) e, n ∙ ap (λ (x : ℕ). gone_by (graph C) (deletion x)) e)
 
 pub loop-k-init : goal.loop-k-init
 loop-k-init c = let r = c.requires in (withdrawing_first _ _ _ _ _ r, omega (arith, r.whole.few_atoms, r.whole.few_plans), r.whole.long)
@@ -27,21 +31,32 @@ remove-r-requires c = let i = c.loop-k.invariant.0 in i.ready.whole
 
 pub overflow_add-gone : goal.overflow_add-gone
 overflow_add-gone c =
-    let b = at-loop c in
-    let z = counts_after b.loop.words c.remove-r.new.0 b.loop.s c.remove-r.result.scalars (id_of c) (left c) in
-    let e = counted c in
-    omega (arith, b.loop.inv.0.sum, b.loop.inv.1)
+    let l = c.loop-k in
+    let a = c.args in
+    let r = c.remove-r in
+    let h = removal_is (config_of l.words l.s) (config_of r.new.words r.result.scalars) r.result.gone _ _ (ap (λ (x : Atom). x.id) c.atom_at-x.ensures) r.ensures.removed r.ensures.counted in
+    let z = counts_after l.words r.new.words l.s r.result.scalars (atom_at l.words l.k).id h.0 in
+    let e = h.1 in
+    omega (arith, l.invariant.0.sum, l.invariant.1)
 
 pub loop-k-smaller-then-is_equal : goal.loop-k-smaller-then-is_equal
 loop-k-smaller-then-is_equal c =
-    let b = at-loop c in
-    let f = fewer b.before.before.args.p b.before.before.args.a b.before.before.args.b (config_of b.before.before.args.words.now b.before.before.args.scalars) (b.before.before.args.scalars.atoms + b.before.before.args.scalars.plans) b.loop.words b.loop.s c.remove-r.new.0 c.remove-r.result.scalars b.loop.gone b.loop.k c.remove-r.result.gone b.loop.inv.0 (there c) (equal c) (whole c) (left c) (counted c) in
+    let l = c.loop-k in
+    let a = c.args in
+    let r = c.remove-r in
+    let h = removal_is (config_of l.words l.s) (config_of r.new.words r.result.scalars) r.result.gone _ _ (ap (λ (x : Atom). x.id) c.atom_at-x.ensures) r.ensures.removed r.ensures.counted in
+    let t = c.loop-k-test.true in
+    let f = fewer a.p a.a a.b (config_of a.words.now a.scalars) (a.scalars.atoms + a.scalars.plans) l.words l.s r.new.words r.result.scalars l.gone l.k r.result.gone l.invariant.0 (omega arith) (sym c.is_equal.ensures ∙ c.if-is_equal.true) r.ensures.sound h.0 h.1 in
     omega arith
 
 pub loop-k-preserved-then-is_equal : goal.loop-k-preserved-then-is_equal
 loop-k-preserved-then-is_equal c =
-    let b = at-loop c in
-    (withdrawing_take b.before.before.args.p b.before.before.args.a b.before.before.args.b (config_of b.before.before.args.words.now b.before.before.args.scalars) (b.before.before.args.scalars.atoms + b.before.before.args.scalars.plans) b.loop.words b.loop.s c.remove-r.new.0 c.remove-r.result.scalars b.loop.gone b.loop.k c.remove-r.result.gone b.loop.inv.0 (there c) (equal c) (whole c) (left c) (counted c), b.loop.inv.1, b.loop.inv.2)
+    let l = c.loop-k in
+    let a = c.args in
+    let r = c.remove-r in
+    let h = removal_is (config_of l.words l.s) (config_of r.new.words r.result.scalars) r.result.gone _ _ (ap (λ (x : Atom). x.id) c.atom_at-x.ensures) r.ensures.removed r.ensures.counted in
+    let t = c.loop-k-test.true in
+    (withdrawing_take a.p a.a a.b (config_of a.words.now a.scalars) (a.scalars.atoms + a.scalars.plans) l.words l.s r.new.words r.result.scalars l.gone l.k r.result.gone l.invariant.0 (omega arith) (sym c.is_equal.ensures ∙ c.if-is_equal.true) r.ensures.sound h.0 h.1, l.invariant.1, l.invariant.2)
 
 pub overflow_add-k : goal.overflow_add-k
 overflow_add-k c = let i = c.loop-k.invariant.0 in omega (arith, i.ready.whole.few_atoms, i.inside)
@@ -64,4 +79,7 @@ pub shape_of-words : goal.shape_of-words
 shape_of-words c = let i = c.loop-k.invariant in i.0.ready.whole.long ∙ sym i.2
 
 pub returns : goal.returns
-returns c = (withdrawing_end _ _ _ _ _ _ _ _ _ c.loop-k.invariant.0 (omega arith), (c.loop-k.invariant.0.ready, omega (arith, c.loop-k.invariant.0.sum, c.loop-k.invariant.1)))
+returns c = record {
+  withdraws = withdrawing_end _ _ _ _ _ _ _ _ _ c.loop-k.invariant.0 (omega arith);
+  ready = (c.loop-k.invariant.0.ready, omega (arith, c.loop-k.invariant.0.sum, c.loop-k.invariant.1));
+}

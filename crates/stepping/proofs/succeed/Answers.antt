@@ -14,8 +14,8 @@ set_flag-requires c =
     let a = c.args in
     let z = c.requires in
     let r = c.remove_step in (
-      live_after a.words.now r.new.0 a.scalars a.k step_removed (λ q. refl) z.0 (r.auto.0 ∙ z.0.long) r.ensures,
-      subst (λ (q : Plan). q.flags ≤ 65535) (sym (plan_after a.words.now r.new.0 a.scalars a.k step_removed z.0.there r.ensures)) z.1,
+      live_after a.words.now r.new.words a.scalars a.k step_removed (λ q. refl) z.0 (r.auto.words ∙ z.0.long) r.ensures,
+      subst (λ (q : Plan). q.flags ≤ 65535) (sym (plan_after a.words.now r.new.words a.scalars a.k step_removed z.0.there r.ensures)) z.1,
       omega arith,
       omega arith,
     )
@@ -25,5 +25,5 @@ returns c =
     let a = c.args in
     let z = c.requires in
     let r = c.remove_step in
-    let d : (plan_at r.new.0 a.k).id ≡ (plan_at a.words.now a.k).id = ap (λ (q : Plan). q.id) (plan_after a.words.now r.new.0 a.scalars a.k step_removed z.0.there r.ensures) in
-    c.set_flag.ensures ∙ ap (λ (n : ℕ). set_stepped n (config_of r.new.0 a.scalars)) d ∙ ap (set_stepped (plan_at a.words.now a.k).id) r.ensures
+    let d : (plan_at r.new.words a.k).id ≡ (plan_at a.words.now a.k).id = ap (λ (q : Plan). q.id) (plan_after a.words.now r.new.words a.scalars a.k step_removed z.0.there r.ensures) in
+    c.set_flag.ensures ∙ ap (λ (n : ℕ). set_stepped n (config_of r.new.words a.scalars)) d ∙ ap (set_stepped (plan_at a.words.now a.k).id) r.ensures
