@@ -68,6 +68,16 @@ module _ (program words : List ℕ) (s : Scalars) (rule : Rule) where
           (subst (λ (w : List ℕ). Barren program words s rule (rule.body - rest) (found_in values w (count_in e)) set) (sym (nogood_ids rest set values count ids v))
           (subst (λ (w : ℕ). Barren program words s rule (rule.body - rest) (found_in values ids w) set) (sym (nogood_count rest set values count ids v)) b))
 
+  -- a failure of the rows from k on noted, or not, with other ids in place behind those that are matched
+  pub noted : (k : ℕ) → k < rule.body → (t u : List ℕ) (set : ℕ) (values ids b : List ℕ) (count : ℕ) → length values ≡ 8 → length b ≡ 4 → take count b ≡ take count ids →
+      Remembered program words s rule t → Barren program words s rule k (found_in values ids count) set →
+      (u ≡ t) ⊎ Replaced t u (nogood (rule.body - k) set values count b) → Remembered program words s rule u
+  noted k low t u set values ids b count v n h m f r =
+      let e : k ≡ rule.body - (rule.body - k) = omega arith in
+      remembered_more t u (rule.body - k) set values count b v n m
+      (subst (λ (k : ℕ). Barren program words s rule k (found_in values b count) set) e
+      (subst (λ (l : List ℕ). Barren program words s rule k (record { values = values; matched = l }) set) (sym h) f)) r
+
   -- what is recalled holds
   pub remembered_says : (t : List ℕ) (rest set : ℕ) (values : List ℕ) (count : ℕ) (ids : List ℕ) → length values ≡ 8 → rest ≢ 0 →
       Remembered program words s rule t → Recalled t rest set values count ids → Barren program words s rule (rule.body - rest) (found_in values ids count) set

@@ -1,11 +1,12 @@
 -- The rows of a rule from a place on: what the search finds is the first that counts of the model's matches.
-use mathlib.Core.Path.{◌≡◌, sym, ap, ◌∙◌}
+use mathlib.Core.Path.{◌≡◌, sym, ap, ◌∙◌, subst}
 use mathlib.Core.Bool.{Bool, true, false}
-use mathlib.Core.List.{List, ◌∷◌}
+use mathlib.Core.List.{List, [], ◌∷◌}
+use mathlib.Core.Logic.{◌≢◌}
 use Prim.Native.Nat.{ℕ, ◌+◌, ◌≤◌, ◌<◌}
 use native.Mathlib.Omega.{arith}
 use lib.Dec.{eqb}
-use lib.ListN.{length}
+use lib.ListN.{length, take}
 use Rattle.lists.specs.Lists.{bit, put, keep, when, bind}
 use Rattle.lists.proofs.Search.{keep_bind}
 use Rattle.model.specs.declared.Row.{Row}
@@ -14,8 +15,9 @@ use Rattle.program.specs.Rows.{row_at, rows_of}
 use Rattle.program.proofs.Words.{rows_next, rows_none}
 use Rattle.state.specs.declared.Scalars.{Scalars}
 use Rattle.state.specs.View.{config_of}
-use Rattle.queries.specs.Answers.{answers}
-use Rattle.queries.proofs.Answers.{answers_all}
+use Rattle.queries.specs.View.{found_in}
+use Rattle.queries.specs.Answers.{answers, given_ids, onward, Next}
+use Rattle.queries.proofs.Answers.{answers_all, onward_none, onward_one}
 use Rattle.matching.specs.declared.Rule.{Rule}
 use Rattle.matching.specs.Rules.{rows_between, reasons_in, counted}
 
@@ -47,3 +49,19 @@ module _ (program words : List ℕ) (s : Scalars) (rule : Rule) (k : ℕ) (f : F
       ap (λ (l : List Row). keep p (matches c l f)) (rows_next program k rule.body h ∙ ap (λ (x : Row). x ∷ rest) (sym e))
       ∙ keep_bind p (matches c rest) (after_row c r f)
       ∙ ap (λ (l : List Found). bind l (λ (x : Found). keep p (matches c rest x))) (answers_all words s r f)
+
+-- the next answer of a row, asked with other ids in place behind those that are matched: there is none, or it is the first
+module _ (words : List ℕ) (s : Scalars) (r : Row) (v m b values matched : List ℕ) (n c w k : ℕ) (same : take n b ≡ take n m)
+    (q : Next (answers words s r (found_in v b n)) c w (found_in values matched (n + given_ids r)) k) where
+  given : answers words s r (found_in v m n) c ≡ onward (answers words s r (found_in v m n)) (found_in values matched (n + given_ids r)) k
+  given =
+      subst (λ (l : List ℕ). answers words s r (record { values = v; matched = l }) c ≡ onward (answers words s r (record { values = v; matched = l })) (found_in values matched (n + given_ids r)) k) same q.is
+
+  pub given_none : k ≡ 0 → answers words s r (found_in v m n) c ≡ []
+  given_none e = given ∙ onward_none (answers words s r (found_in v m n)) _ _ e
+
+  pub given_one : k ≢ 0 → (g : ℕ) → g ≡ n + given_ids r →
+      ◌≡◌ {A = List Found} (answers words s r (found_in v m n) c) (found_in values matched g ∷ answers words s r (found_in v m n) k)
+  given_one z g e =
+      given ∙ onward_one (answers words s r (found_in v m n)) _ _ z
+      ∙ ap {B = List Found} (λ (g : ℕ). found_in values matched g ∷ answers words s r (found_in v m n) k) (sym e)

@@ -2,7 +2,6 @@ use borrow.Author.Rules.{rules}
 use native.Mathlib.Omega.{arith}
 use Prim.Native.Nat.{ℕ, ◌-◌, ◌<◌, ◌≤◌}
 use mathlib.Core.Path.{◌≡◌, refl, sym, ap, ◌∙◌, subst}
-use mathlib.Core.Logic.{⊎_elim}
 use mathlib.Core.List.{List, []}
 use lib.Dec.{eqb}
 use lib.ListN.{length, take}
@@ -15,6 +14,7 @@ use Rattle.queries.specs.Answers.{answers}
 use Rattle.queries.proofs.Answers.{onward_none}
 use Rattle.matching.proofs.Ahead.{barren_ahead}
 use Rattle.matching.proofs.ask_later.Goals as goal
+use Rattle.matching.proofs.ask_later.Goals.{then-is_settled+else-next_answer-eq0, else-is_settled}
 
 pub loop-left-init : goal.loop-left-init
 loop-left-init c = (c.requires.4, refl, refl)
@@ -23,10 +23,10 @@ pub overflow_cast-j : goal.overflow_cast-j
 overflow_cast-j c = omega arith
 
 pub returns-then-body-k : goal.returns-then-body-k
-returns-then-body-k c = let i = c.loop-left.invariant in (i.0, (λ n. absurd (n refl), (i.1, i.2)))
+returns-then-body-k c = let i = c.loop-left.invariant in record { sized = i.0; is = λ n. absurd (n refl); back = i.1; kept = i.2 }
 
 pub returns-then-j-eq0 : goal.returns-then-j-eq0
-returns-then-j-eq0 c = let i = c.loop-left.invariant in (i.0, (λ n. absurd (n refl), (i.1, i.2)))
+returns-then-j-eq0 c = let i = c.loop-left.invariant in record { sized = i.0; is = λ n. absurd (n refl); back = i.1; kept = i.2 }
 
 pub row_at-r-requires : goal.row_at-r-requires
 row_at-r-requires c =
@@ -60,15 +60,15 @@ returns-then-next_answer-eq0 c =
     let f : Found = found_in v a.matched.now a.count in
     let none : answers a.words.now a.s r f 0 ≡ [] =
     subst (λ (m : List ℕ). answers a.words.now a.s r (record { values = v; matched = m }) 0 ≡ []) i.2
-    (n.1.0.is ∙ onward_none (answers a.words.now a.s r (found_in v c.loop-left.matched a.count)) _ _ c.if-next_answer-eq0.true) in
+    (n.is.is ∙ onward_none (answers a.words.now a.s r (found_in v c.loop-left.matched a.count)) _ _ c.if-next_answer-eq0.true) in
     let near = c.if-body-k.false in
-    let far = c.if-j-eq0.false in (
-      n.0,
-      (
-        λ h. barren_ahead a.program.now a.words.now a.s a.rule _ (omega arith) r c.row_at-r.ensures f (c.is_settled.ensures c.if-is_settled.true) none a.k c.operands.result (omega arith) c.operands.ensures,
-        (n.1.1.0 c.if-next_answer-eq0.true, n.1.1.1 ∙ i.2),
-      ),
-    )
+    let far = c.if-j-eq0.false in
+    record {
+      sized = n.sized;
+      is = λ h. barren_ahead a.program.now a.words.now a.s a.rule _ (omega arith) r c.row_at-r.ensures f (c.is_settled.ensures c.if-is_settled.true) none a.k c.operands.result (omega arith) c.operands.ensures;
+      back = n.back c.if-next_answer-eq0.true;
+      kept = n.kept ∙ i.2;
+    }
 
 pub loop-left-smaller : goal.loop-left-smaller
 loop-left-smaller c = omega arith
@@ -77,11 +77,11 @@ pub loop-left-preserved : goal.loop-left-preserved
 loop-left-preserved c =
     let i = c.loop-left.invariant in
     let n = c.args.count in
-    let long = c.requires.4.0 in (
-      ⊎_elim (λ w. (ap length w.5 ∙ long, ap length w.6 ∙ w.3.ensures.0.1)) (λ w. (ap length w.1 ∙ i.0.0, ap length w.2 ∙ i.0.1)) c.if-is_settled.branch,
-      ⊎_elim (λ w. w.5) (λ w. w.1 ∙ i.1) c.if-is_settled.branch,
-      ⊎_elim (λ w. ap (take n) w.6 ∙ w.3.ensures.1.1.1 ∙ i.2) (λ w. ap (take n) w.2 ∙ i.2) c.if-is_settled.branch,
-    )
+    let long = c.requires.4.0 in
+    elim c.if-is_settled.branch [
+      | then-is_settled+else-next_answer-eq0 w ↦ ((ap length w.values-is ∙ long, ap length w.matched-is ∙ w.next_answer.ensures.sized.1), w.values-is, ap (take n) w.matched-is ∙ w.next_answer.ensures.kept ∙ i.2)
+      | else-is_settled w ↦ ((ap length w.values-is ∙ i.0.0, ap length w.matched-is ∙ i.0.1), w.values-is ∙ i.1, ap (take n) w.matched-is ∙ i.2)
+    ]
 
 pub returns : goal.returns
-returns c = let i = c.loop-left.invariant in (i.0, (λ n. absurd (n refl), (i.1, i.2)))
+returns c = let i = c.loop-left.invariant in record { sized = i.0; is = λ n. absurd (n refl); back = i.1; kept = i.2 }

@@ -12,51 +12,42 @@ use Rattle.state.specs.View.{plan_at, plans_of}
 use Rattle.queries.specs.View.{found_of}
 use Rattle.matching.proofs.Plans.{some_here, some_next, some_end, not_same, other_justified}
 use Rattle.matching.proofs.counts.Goals as goal
-use Rattle.matching.proofs.counts.Goals.{After-rising_set-l, At-loop-k}
-
-abbrev start : At-loop-k → tie.Start invariant-loop decreases-loop
-start l = l.before.before.before.before.before.before.before.before.before
-
-long-ids : (r : After-rising_set-l) → length r.rising_set-l.result.ids ≡ 4
-long-ids r = search rules
 
 pub returns-then-not-rule : goal.returns-then-not-rule
 unfolding counts
-returns-then-not-rule c = rw (← c.requires.0.object_is, not-true c.args.rule.object c.if-not-rule.true)
+returns-then-not-rule c = rw (← c.requires.0.object_is, c.if-not-rule.true)
 
 pub loop-k-init : goal.loop-k-init
 loop-k-init c = (omega arith, refl)
 
 pub words_agree-requires : goal.words_agree-requires
-words_agree-requires c = let p = (start c.before).pre.1 in let a = p.plans in (p.long, omega arith)
+words_agree-requires c = let p = c.requires.1 in let a = p.plans in (p.long, omega arith)
 
 -- plan k has other justifications
 pub loop-k-preserved-then-not-words_agree : goal.loop-k-preserved-then-not-words_agree
 unfolding justifications_of
 loop-k-preserved-then-not-words_agree c =
-    let s = start c.before.before.before in
-    let a = s.args in
+    let a = c.args in
     let e = c.rising_set-l.ensures in
-    let few = s.pre.2 in
-    let q : Plan = plan_at a.words.now c.loop-k.k in
-    let other = not_same c.rising_set-l.result q.justifications (long-ids c.before.before.before.before.before.before) (omega (arith, e.1.0)) e.1.1 (sym c.words_agree.ensures ∙ not-true _ c.if-not-words_agree.true) in
-    (omega arith, c.loop-k.invariant.1 ∙ some_next _ _ _ _ c.loop-k-test.true (other_justified (rows_of a.program.now) a.rule.set a.rule.number (found_of a.f) q (ap (same q.justifications) (sym e.0) ∙ other)))
+    let few = c.requires.2 in
+    let four : length c.rising_set-l.result.ids ≡ 4 = search rules in
+    let q : Plan = plan_at c.args.words.now c.loop-k.k in
+    let other = not_same c.rising_set-l.result q.justifications four (omega (arith, e.few)) e.padded (sym c.words_agree.ensures ∙ c.if-not-words_agree.true) in
+    (omega arith, c.loop-k.invariant.1 ∙ some_next _ _ _ _ c.loop-k-test.true (other_justified (rows_of c.args.program.now) c.args.rule.set c.args.rule.number (found_of c.args.f) q (ap (same q.justifications) (sym e.is) ∙ other)))
 
 pub equal_plan-requires : goal.equal_plan-requires
 unfolding justifications_of
 equal_plan-requires c =
-    let s = start c.before.before.before in
-    let k = s.pre.1 in
+    let k = c.requires.1 in
     let a = k.plans in
     let e = c.rising_set-l.ensures in
-    let p = s.pre.2 in
-    (s.pre.0, k.long, omega arith, omega (arith, e.1.0), e.0)
+    let p = c.requires.2 in
+    (c.requires.0, k.long, omega arith, omega (arith, e.few), e.is)
 
 pub returns-then-equal_plan : goal.returns-then-equal_plan
 unfolding counts
 returns-then-equal_plan c =
-    let s = start c.before.before.before.before.before in
-    sym (rw (← s.pre.0.object_is, not-false s.args.rule.object c.if-not-rule.false, c.loop-k.invariant.1 ∙ some_here _ _ _ _ c.loop-k-test.true (sym c.equal_plan.ensures ∙ c.if-equal_plan.true)))
+    sym (rw (← c.requires.0.object_is, not-false c.args.rule.object c.if-not-rule.false, c.loop-k.invariant.1 ∙ some_here _ _ _ _ c.loop-k-test.true (sym c.equal_plan.ensures ∙ c.if-equal_plan.true)))
 
 pub loop-k-preserved : goal.loop-k-preserved
 loop-k-preserved c = (omega arith, c.loop-k.invariant.1 ∙ some_next _ _ _ _ c.loop-k-test.true (sym c.equal_plan.ensures ∙ c.if-equal_plan.false))
@@ -64,8 +55,7 @@ loop-k-preserved c = (omega arith, c.loop-k.invariant.1 ∙ some_next _ _ _ _ c.
 pub returns : goal.returns
 unfolding counts
 returns c =
-    let s = start c.before in
-    sym (rw (← s.pre.0.object_is, not-false s.args.rule.object c.if-not-rule.false, c.loop-k.invariant.1 ∙ some_end _ _ _ _ c.loop-k-test.false))
+    sym (rw (← c.requires.0.object_is, not-false c.args.rule.object c.if-not-rule.false, c.loop-k.invariant.1 ∙ some_end _ _ _ _ c.loop-k-test.false))
 
 pub overflow_add-k : goal.overflow_add-k
 overflow_add-k c = omega arith

@@ -21,7 +21,7 @@ returns-then-plan_rule-rule c = rw (← c.plan_set.ensures, eq-eqb _ _ c.if-plan
 
 pub returns-then-not-same_justifications : goal.returns-then-not-same_justifications
 unfolding equal_plan
-returns-then-not-same_justifications c = rw (← c.plan_set.ensures, eq-eqb _ _ c.if-plan_set-rule.false, ← c.plan_rule.ensures, eq-eqb _ _ c.if-plan_rule-rule.false, ← c.requires.4, ← c.same_justifications.ensures, not-true c.same_justifications.result c.if-not-same_justifications.true)
+returns-then-not-same_justifications c = rw (← c.plan_set.ensures, eq-eqb _ _ c.if-plan_set-rule.false, ← c.plan_rule.ensures, eq-eqb _ _ c.if-plan_rule-rule.false, ← c.requires.4, ← c.same_justifications.ensures, c.if-not-same_justifications.true)
 
 -- where all values are the same, so are those of the body's variables
 pub returns-then-values_agree : goal.returns-then-values_agree
@@ -37,7 +37,7 @@ returns-then-values_agree c =
       eq-eqb _ _ c.if-plan_rule-rule.false,
       ← c.requires.4,
       ← c.same_justifications.ensures,
-      not-false c.same_justifications.result c.if-not-same_justifications.false,
+      c.if-not-same_justifications.false,
     )
     (sym (ap (λ (l : List ℕ). same (body_values body_rows l) (body_values body_rows a.f.values)) same-all ∙ same_self (body_values body_rows a.f.values)))
 
@@ -54,7 +54,7 @@ returns c =
       eq-eqb _ _ c.if-plan_rule-rule.false,
       ← c.requires.4,
       ← c.same_justifications.ensures,
-      not-false c.same_justifications.result c.if-not-same_justifications.false,
+      c.if-not-same_justifications.false,
       ← c.requires.0.body_is,
     )
     c.same_values.ensures

@@ -5,13 +5,9 @@ use native.Mathlib.Omega.{arith}
 use lib.ListN.{length, take}
 use Rattle.matching.proofs.Plans.{Inserting, there, passed, moved, at_end, end_zeros}
 use Rattle.matching.proofs.insert.Goals as goal
-use Rattle.matching.proofs.insert.Goals.{Start}
-
-long : (s : Start) → length s.args.l.ids ≡ 4
-long s = search rules
 
 pub loop-j-init : goal.loop-j-init
-loop-j-init c = record { long = long c.before; few = c.requires.0; within = omega arith; is = refl; rises = c.requires.1; zeros = c.requires.2 }
+loop-j-init c = record { long = search rules; few = c.requires.0; within = omega arith; is = refl; rises = c.requires.1; zeros = c.requires.2 }
 
 pub offset_bounds-ids-j : goal.offset_bounds-ids-j
 offset_bounds-ids-j c = omega arith
@@ -22,7 +18,7 @@ bounds-ids-j c = let i = c.loop-j.invariant in let a = i.long in let b = i.few i
 pub returns-then-carried-x : goal.returns-then-carried-x
 returns-then-carried-x c =
     let i = c.loop-j.invariant in
-    (there _ _ _ _ _ _ i c.loop-j-test.true c.if-carried-x.true, (omega arith, i.zeros))
+    record { is = there _ _ _ _ _ _ i c.loop-j-test.true c.if-carried-x.true; few = omega arith; padded = i.zeros }
 
 pub offset_bounds-ids-j-then-carried-x-2 : goal.offset_bounds-ids-j-then-carried-x-2
 offset_bounds-ids-j-then-carried-x-2 c = omega arith
@@ -60,4 +56,4 @@ overflow_add-result c = let i = c.loop-j.invariant in let b = i.few in omega ari
 pub returns : goal.returns
 returns c =
     let i = c.loop-j.invariant in
-    (at_end _ _ _ _ _ _ i c.loop-j-test.false, (omega arith, end_zeros _ _ _ _ _ _ i))
+    record { is = at_end _ _ _ _ _ _ i c.loop-j-test.false; few = omega arith; padded = end_zeros _ _ _ _ _ _ i }

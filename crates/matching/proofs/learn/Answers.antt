@@ -12,7 +12,7 @@ note-requires c =
     (p.0, p.1 (λ (z : _ ≡ 0). omega (arith, h, z)), p.2)
 
 pub returns-then-hint-eq1 : goal.returns-then-hint-eq1
-returns-then-hint-eq1 c = (refl, inr c.note.ensures)
+returns-then-hint-eq1 c = record { is = refl; noted = inr c.note.ensures }
 
 pub returns-else-hint-eq1 : goal.returns-else-hint-eq1
-returns-else-hint-eq1 c = (refl, inl refl)
+returns-else-hint-eq1 c = record { is = refl; noted = inl refl }

@@ -5,13 +5,9 @@ use native.Mathlib.Omega.{arith}
 use lib.ListN.{length}
 use Rattle.matching.proofs.Plans.{Sorted, sorted_none, sorted_rises, sorted_next}
 use Rattle.matching.proofs.rising_set.Goals as goal
-use Rattle.matching.proofs.rising_set.Goals.{Start}
-
-long : (s : Start) → length s.args.t1 ≡ 4
-long s = search rules
 
 pub loop-j-init : goal.loop-j-init
-loop-j-init c = let l = long c in let h : c.args.count ≤ length c.args.t1 = let h = c.requires in omega arith in sorted_none c.args.t1 c.args.count h
+loop-j-init c = let l : length c.args.matched ≡ 4 = search rules in let h : c.args.count ≤ length c.args.matched = let h = c.requires in omega arith in sorted_none c.args.matched c.args.count h
 
 pub overflow_sub-j : goal.overflow_sub-j
 overflow_sub-j c = omega arith
@@ -20,7 +16,7 @@ pub offset_bounds-matched-j : goal.offset_bounds-matched-j
 offset_bounds-matched-j c = omega arith
 
 pub bounds-matched-j : goal.bounds-matched-j
-bounds-matched-j c = let i = c.loop-j.invariant.within in let l = long c.before.before in let h = c.requires in omega arith
+bounds-matched-j c = let i = c.loop-j.invariant.within in let l : length c.args.matched ≡ 4 = search rules in let h = c.requires in omega arith
 
 pub insert-l-requires : goal.insert-l-requires
 insert-l-requires c = let i = c.loop-j.invariant in let a = i.few in (let h = c.requires in omega arith, sorted_rises i, i.padded)
@@ -31,13 +27,13 @@ loop-j-smaller c = omega arith
 pub loop-j-preserved : goal.loop-j-preserved
 loop-j-preserved c =
     let e = c.insert-l.ensures in
-    let l = long c.before.before.before in
-    let h : c.args.count ≤ length c.args.t1 = let h = c.requires in omega arith in
-    sorted_next c.insert-l.result h c.loop-j-test.true c.loop-j.invariant e.0 e.1.0 e.1.1
+    let l : length c.args.matched ≡ 4 = search rules in
+    let h : c.args.count ≤ length c.args.matched = let h = c.requires in omega arith in
+    sorted_next c.insert-l.result h c.loop-j-test.true c.loop-j.invariant e.is e.few e.padded
 
 pub returns : goal.returns
 returns c =
     let i = c.loop-j.invariant in
     let f = i.few in
     let z : c.loop-j.j ≡ 0 = omega (arith, c.loop-j-test.false) in
-    (rw z at i.is, (omega arith, i.padded))
+    record { is = rw z at i.is; few = omega arith; padded = i.padded }

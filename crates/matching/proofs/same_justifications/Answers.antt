@@ -8,17 +8,11 @@ use Rattle.lists.specs.Lists.{same}
 use Rattle.state.specs.View.{plan_at}
 use Rattle.matching.proofs.Plans.{same_longer, same_end, same_next, same_not}
 use Rattle.matching.proofs.same_justifications.Goals as goal
-use Rattle.matching.proofs.same_justifications.Goals.{Start}
-
-long : (s : Start) → length s.args.l.ids ≡ 4
-long s = search rules
-
-front_long : (s : Start) → length (take s.args.l.count s.args.l.ids) ≡ s.args.l.count
-front_long s = let l = long s in let p = s.requires in length-take-le s.args.l.count s.args.l.ids (omega arith)
 
 pub returns-then-n-count : goal.returns-then-n-count
 returns-then-n-count c =
-    let l = front_long c.before.before.before.before in
+    let four : length c.args.l.ids ≡ 4 = search rules in
+    let l : length (take c.args.l.count c.args.l.ids) ≡ c.args.l.count = length-take-le c.args.l.count c.args.l.ids (omega (arith, c.requires.2)) in
     let n = c.justification_count-n.ensures in
     same_longer _ _ (λ (e : length (plan_at c.args.words.now c.args.k).justifications ≡ length (take c.args.l.count c.args.l.ids)). c.if-n-count.true (n ∙ e ∙ l))
 
@@ -32,12 +26,13 @@ pub offset_bounds-ids-j : goal.offset_bounds-ids-j
 offset_bounds-ids-j c = omega arith
 
 pub bounds-ids-j : goal.bounds-ids-j
-bounds-ids-j c = let l = long c.before.before.before.before.before.before.before in let p = c.requires in omega arith
+bounds-ids-j c = let l : length c.args.l.ids ≡ 4 = search rules in let p = c.requires in omega arith
 
 pub returns-then-plan_justification-ids : goal.returns-then-plan_justification-ids
 returns-then-plan_justification-ids c =
     let n = c.justification_count-n.ensures in
-    let l = front_long c.before.before.before.before.before.before.before.before in
+    let four : length c.args.l.ids ≡ 4 = search rules in
+    let l : length (take c.args.l.count c.args.l.ids) ≡ c.args.l.count = length-take-le c.args.l.count c.args.l.ids (omega (arith, c.requires.2)) in
     let g = get_or-take c.args.l.count c.args.l.ids c.loop-j.j 0 c.loop-j-test.true in
     sym (c.loop-j.invariant.1 ∙ same_not (plan_at c.args.words.now c.args.k).justifications (take c.args.l.count c.args.l.ids) c.loop-j.j (omega (arith, c.if-n-count.false)) (omega arith) (λ e. c.if-plan_justification-ids.true (c.plan_justification.ensures ∙ e ∙ g)))
 
@@ -50,12 +45,14 @@ loop-j-smaller c = omega arith
 pub loop-j-preserved : goal.loop-j-preserved
 loop-j-preserved c =
     let n = c.justification_count-n.ensures in
-    let l = front_long c.before.before.before.before.before.before.before.before in
+    let four : length c.args.l.ids ≡ 4 = search rules in
+    let l : length (take c.args.l.count c.args.l.ids) ≡ c.args.l.count = length-take-le c.args.l.count c.args.l.ids (omega (arith, c.requires.2)) in
     let g = get_or-take c.args.l.count c.args.l.ids c.loop-j.j 0 c.loop-j-test.true in
     (omega arith, c.loop-j.invariant.1 ∙ same_next (plan_at c.args.words.now c.args.k).justifications (take c.args.l.count c.args.l.ids) c.loop-j.j (omega (arith, c.if-n-count.false)) (omega arith) (sym c.plan_justification.ensures ∙ c.if-plan_justification-ids.false ∙ sym g))
 
 pub returns : goal.returns
 returns c =
     let n = c.justification_count-n.ensures in
-    let l = front_long c.before.before.before.before.before.before in
+    let four : length c.args.l.ids ≡ 4 = search rules in
+    let l : length (take c.args.l.count c.args.l.ids) ≡ c.args.l.count = length-take-le c.args.l.count c.args.l.ids (omega (arith, c.requires.2)) in
     same_end (plan_at c.args.words.now c.args.k).justifications (take c.args.l.count c.args.l.ids) c.loop-j.j (omega (arith, c.if-n-count.false)) (omega arith) ∙ sym c.loop-j.invariant.1

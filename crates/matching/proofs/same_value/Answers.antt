@@ -21,8 +21,8 @@ pub returns : goal.returns
 unfolding body_value
 returns c =
     let a = c.args in
-    let l : length a.t4 ≡ 8 = search rules in
+    let l : length a.values ≡ 8 = search rules in
     let f = c.if-x-eq0.false in
     let h : 1 ≤ a.x = omega arith in
     let g : a.x ≤ 8 = omega (arith, c.if-x-ge9.false) in
-    rw (within_in 1 8 a.x h g, ← c.plan_value.ensures, get_within a.t4 (8 - a.x) 65536 0 (omega arith))
+    rw (within_in 1 8 a.x h g, ← c.plan_value.ensures, get_within a.values (8 - a.x) 65536 0 (omega arith))

@@ -14,38 +14,14 @@ use Rattle.program.specs.Rows.{row_at}
 use Rattle.program.proofs.Words.{row_inside}
 use Rattle.queries.specs.View.{found_in, Sized}
 use Rattle.queries.specs.Answers.{answers, width, given_ids}
-use Rattle.queries.proofs.Answers.{onward_none, onward_one, ids_few}
+use Rattle.queries.proofs.Answers.{ids_few}
 use Rattle.matching.specs.Rules.{reasons_in, counted}
 use Rattle.matching.specs.Sets.{Remembered}
-use Rattle.matching.proofs.Rows.{reasons_next}
+use Rattle.matching.proofs.Rows.{reasons_next, given_none, given_one}
 use Rattle.matching.proofs.Bits.{apart_of}
 use Rattle.matching.proofs.Failing.{barren_none, rest_apart}
 use Rattle.matching.proofs.Remembering.{remembered_empty}
 use Rattle.matching.proofs.search_rest.Goals as goal
-use Rattle.matching.proofs.search_rest.Goals.{After-row_at-r, Else-c-eq0}
-
-abbrev origin : After-row_at-r → tie.Start invariant-loop decreases-loop
-origin g = g.before.before.before.before.before.before.before
-
--- what was found before row k
-abbrev found : After-row_at-r → Found
-found g = found_in (origin g).args.values.now [] 0
-
--- how many reasons are left at row k
-left : (g : After-row_at-r) → let a = (origin g).args in
-    reasons_in a.program.now a.k a.rule.body ≡ bit (eqb g.row_at-r.result.part 1) + reasons_in a.program.now (a.k + 1) a.rule.body
-left g = let a = (origin g).args in reasons_next a.program.now a.k a.rule.body (origin g).requires.2 g.row_at-r.result g.row_at-r.ensures
-
--- the answer of row k
-answered : (d : Else-c-eq0) →
-    let a = (origin d.before.before.before.before.before.before.before.before.before).args in
-    ◌≡◌ {A = List Found} (answers a.words.now a.s d.row_at-r.result (found d.before.before.before.before.before.before.before.before.before) d.loop-c.c)
-    (found_in d.next_answer-c.new.1.1.1.1.1.1.0 d.next_answer-c.new.1.1.1.1.1.1.1.0 d.given_ids-n.result ∷ answers a.words.now a.s d.row_at-r.result (found d.before.before.before.before.before.before.before.before.before) d.next_answer-c.result)
-answered d =
-    let a = (origin d.before.before.before.before.before.before.before.before.before).args in
-    let h : 0 + given_ids d.row_at-r.result ≡ d.given_ids-n.result = let e = d.given_ids-n.ensures in omega arith in
-    d.next_answer-c.ensures.1.0.is ∙ onward_one (answers a.words.now a.s d.row_at-r.result (found d.before.before.before.before.before.before.before.before.before)) _ _ d.if-c-eq0.false
-    ∙ ap {B = List Found} (λ (n : ℕ). found_in d.next_answer-c.new.1.1.1.1.1.1.0 d.next_answer-c.new.1.1.1.1.1.1.1.0 n ∷ answers a.words.now a.s d.row_at-r.result (found d.before.before.before.before.before.before.before.before.before) d.next_answer-c.result) h
 
 pub of_body-body-requires : goal.of_body-body-requires
 of_body-body-requires c = c.requires.0.inside
@@ -76,10 +52,10 @@ changed-gives-requires c = c.requires.4.0
 
 pub loop-c-init : goal.loop-c-init
 loop-c-init c =
-    let a = (origin c.before.before.before).args in
+    let a = c.args in
     let M : Found → List Found = counted a.program.now a.words.now a.s a.rule (a.k + 1) in
-    let L : Row → List Found = λ r. bind (answers a.words.now a.s r (found c.before.before.before) a.from) M in (
-      (origin c.before.before.before).requires.4,
+    let L : Row → List Found = λ r. bind (answers a.words.now a.s r (found_in a.values.now [] 0) a.from) M in (
+      c.requires.4,
       refl,
       ap (λ (r : Row). first_of (L r)) (sym c.row_at-r.ensures) ∙ ap {B = List Found} first_of (sym (append-nil (L c.row_at-r.result))),
       remembered_empty a.program.now a.words.now a.s a.rule,
@@ -91,26 +67,30 @@ slice_bounds-next_answer-end c = sym c.of_atoms-filter.ensures.long
 
 pub next_answer-c-requires : goal.next_answer-c-requires
 next_answer-c-requires c =
-    let p = (origin c.before.before.before.before.before.before.before).requires in
-    let n = left c.before.before.before.before.before.before.before in
+    let a = c.args in
+    let p = c.requires in
+    let n = reasons_next a.program.now a.k a.rule.body p.2 c.row_at-r.result c.row_at-r.ensures in
     let q = p.3 in
     (p.1, omega arith, c.loop-c.invariant.0, c.loop-c.invariant.1, c.of_atoms-filter.ensures)
 
 pub returns-then-c-eq0 : goal.returns-then-c-eq0
 returns-then-c-eq0 c =
-    let a = (origin c.before.before.before.before.before.before.before.before.before).args in
+    let a = c.args in
+    let r = c.row_at-r.result in
     let e = c.next_answer-c.ensures in
-    let none = e.1.0.is ∙ onward_none (answers a.words.now a.s c.row_at-r.result (found c.before.before.before.before.before.before.before.before.before)) _ _ c.if-c-eq0.true in (
-      e.0,
-      (record { high = omega arith; finds = λ h. absurd (omega arith); fails = λ h. spent _ _ [] c.loop-c.invariant.2 none }, λ h. e.1.1.0 c.if-c-eq0.true),
-    )
+    let none = given_none a.words.now a.s r a.values.now [] c.loop-c.matched _ _ 0 c.loop-c.c _ _ refl e.is c.if-c-eq0.true in
+    record {
+      sized = e.sized;
+      is = record { high = omega arith; finds = λ h. absurd (omega arith); fails = λ h. spent _ _ [] c.loop-c.invariant.2 none };
+      back = λ h. e.back c.if-c-eq0.true;
+    }
 
 pub overflow_add-k : goal.overflow_add-k
 overflow_add-k c =
-    let s = origin c.before.before.before.before.before.before.before.before.before in
-    let low = s.pre.2 in
-    let q = s.pre.0.ordered in
-    let n = s.pre.0.inside in
+    let p = c.requires in
+    let low = p.2 in
+    let q = p.0.ordered in
+    let n = p.0.inside in
     omega arith
 
 pub slice_bounds-search_long-end : goal.slice_bounds-search_long-end
@@ -124,51 +104,61 @@ slice_bounds-search_long-end-in-loop-c-2 c = sym c.of_atoms-filter.ensures.long
 
 pub search_long-m-requires : goal.search_long-m-requires
 search_long-m-requires c =
-    let p = (origin c.before.before.before.before.before.before.before.before.before.before.before.before.before.before).requires in
-    let n = left c.before.before.before.before.before.before.before.before.before.before.before.before.before.before in
+    let a = c.args in
+    let p = c.requires in
+    let n = reasons_next a.program.now a.k a.rule.body p.2 c.row_at-r.result c.row_at-r.ensures in
     let q = p.3 in
     let k = ids_few c.row_at-r.result in
     let e = c.given_ids-n.ensures in
-    (p.0, p.1, omega arith, c.next_answer-c.ensures.0, c.of_body-body.ensures, c.loop-c.invariant.3, c.of_atoms-filter.ensures)
+    (p.0, p.1, omega arith, c.next_answer-c.ensures.sized, c.of_body-body.ensures, c.loop-c.invariant.3, c.of_atoms-filter.ensures)
 
 pub returns-then-m-ge-NONE : goal.returns-then-m-ge-NONE
 returns-then-m-ge-NONE c =
+    let a = c.args in
+    let r = c.row_at-r.result in
     let e = c.search_long-m.ensures in
-    let long = c.if-m-ge-NONE.true in (
-      e.0,
-      (
-        record { high = e.1.0.high; finds = λ h. reached _ _ [] c.loop-c.invariant.2 _ _ (answered c.before.before.before.before.before.before.before.before.before) _ (e.1.0.finds h) refl; fails = λ h. absurd (omega (arith, h, long)) },
-        λ h. absurd (omega (arith, h, long)),
-      ),
-    )
+    let long = c.if-m-ge-NONE.true in
+    let n : c.given_ids-n.result ≡ 0 + given_ids c.row_at-r.result = omega (arith, c.given_ids-n.ensures) in
+    let one = given_one a.words.now a.s r a.values.now [] c.loop-c.matched _ _ 0 c.loop-c.c _ _ refl c.next_answer-c.ensures.is c.if-c-eq0.false c.given_ids-n.result n in
+    record {
+      sized = e.sized;
+      is = record { high = e.is.high; finds = λ h. reached _ _ [] c.loop-c.invariant.2 _ _ one _ (e.is.finds h) refl; fails = λ h. absurd (omega (arith, h, long)) };
+      back = λ h. absurd (omega (arith, h, long));
+    }
 
 pub returns-then-are_apart : goal.returns-then-are_apart
 returns-then-are_apart c =
-    let s = origin c.before.before.before.before.before.before.before.before.before.before.before.before.before.before.before.before.before.before.before.before in
-    let a = s.args in
+    let a = c.args in
+    let r = c.row_at-r.result in
     let m = c.search_long-m.result in
     let e = c.search_long-m.ensures in
-    let none = rest_apart a.program.now a.words.now a.s a.rule a.k c.row_at-r.result (found c.before.before.before.before.before.before.before.before.before.before.before.before.before.before.before.before.before.before.before.before) s.pre.4.0 c.loop-c.c _ _ m (answered c.before.before.before.before.before.before.before.before.before.before.before)
-    (apart_of m c.changed-gives.result c.row_at-r.result a.values.now c.changed-gives.ensures (c.are_apart.ensures c.if-are_apart.true)) (e.1.0.fails (omega (arith, c.if-m-ge-NONE.false))) in (
-      (s.pre.4.0, e.0.1),
-      (record { high = omega arith; finds = λ h. absurd (omega arith); fails = λ h. c.loop-c.invariant.2 ∙ ap (λ (k : List Found). first_of (k ++ [])) none }, λ h. refl),
-    )
+    let n : c.given_ids-n.result ≡ 0 + given_ids c.row_at-r.result = omega (arith, c.given_ids-n.ensures) in
+    let one = given_one a.words.now a.s r a.values.now [] c.loop-c.matched _ _ 0 c.loop-c.c _ _ refl c.next_answer-c.ensures.is c.if-c-eq0.false c.given_ids-n.result n in
+    let none = rest_apart a.program.now a.words.now a.s a.rule a.k r (found_in a.values.now [] 0) c.requires.4.0 c.loop-c.c _ _ m one
+    (apart_of m c.changed-gives.result r a.values.now c.changed-gives.ensures (c.are_apart.ensures c.if-are_apart.true)) (e.is.fails (omega (arith, c.if-m-ge-NONE.false))) in
+    record {
+      sized = (c.requires.4.0, e.sized.1);
+      is = record { high = omega arith; finds = λ h. absurd (omega arith); fails = λ h. c.loop-c.invariant.2 ∙ ap (λ (k : List Found). first_of (k ++ [])) none };
+      back = λ h. refl;
+    }
 
 pub loop-c-smaller : goal.loop-c-smaller
 loop-c-smaller c =
-    let on = c.next_answer-c.ensures.1.0.further c.if-c-eq0.false in
+    let on = c.next_answer-c.ensures.is.further c.if-c-eq0.false in
     omega arith
 
 pub loop-c-preserved : goal.loop-c-preserved
 loop-c-preserved c =
-    let s = origin c.before.before.before.before.before.before.before.before.before.before.before.before.before.before.before.before.before.before.before.before in
-    let a = s.args in
-    let v : Found = found_in c.next_answer-c.new.1.1.1.1.1.1.0 c.next_answer-c.new.1.1.1.1.1.1.1.0 c.given_ids-n.result in
+    let a = c.args in
+    let r = c.row_at-r.result in
+    let v : Found = found_in c.next_answer-c.new.values c.next_answer-c.new.matched c.given_ids-n.result in
     let e = c.search_long-m.ensures in
-    let none = barren_none a.program.now a.words.now a.s a.rule (a.k + 1) v c.search_long-m.result c.next_answer-c.ensures.0.0 (e.1.0.fails (omega (arith, c.if-m-ge-NONE.false))) in (
-      (s.pre.4.0, e.0.1),
+    let n : c.given_ids-n.result ≡ 0 + given_ids c.row_at-r.result = omega (arith, c.given_ids-n.ensures) in
+    let one = given_one a.words.now a.s r a.values.now [] c.loop-c.matched _ _ 0 c.loop-c.c _ _ refl c.next_answer-c.ensures.is c.if-c-eq0.false c.given_ids-n.result n in
+    let none = barren_none a.program.now a.words.now a.s a.rule (a.k + 1) v c.search_long-m.result c.next_answer-c.ensures.sized.0 (e.is.fails (omega (arith, c.if-m-ge-NONE.false))) in (
+      (c.requires.4.0, e.sized.1),
       refl,
-      backed _ _ [] c.loop-c.invariant.2 _ _ (answered c.before.before.before.before.before.before.before.before.before.before.before) [] (sym (ap first_of none)) refl,
-      e.1.1.1.1,
-      c.search_long-m.auto.1.1.1.1.1.1.1.1.1.0 ∙ c.loop-c.invariant.4,
+      backed _ _ [] c.loop-c.invariant.2 _ _ one [] (sym (ap first_of none)) refl,
+      e.learnt,
+      c.search_long-m.auto.hints ∙ c.loop-c.invariant.4,
     )

@@ -4,15 +4,12 @@ use lib.ListN.{length}
 use Rattle.state.proofs.View.{values_long}
 use Rattle.matching.proofs.Plans.{agreed_values}
 use Rattle.matching.proofs.values_agree.Goals as goal
-use Rattle.matching.proofs.values_agree.Goals.{Start}
-
-long : (s : Start) → length s.args.t3 ≡ 8
-long s = search rules
 
 pub returns : goal.returns
 returns c =
     let a = c.args in
-    λ e. agreed_values _ a.t3 (values_long a.words.now a.k c.requires.0 c.requires.1) (long c.before.before.before.before.before.before.before.before.before)
+    let long : length a.values ≡ 8 = search rules in
+    λ e. agreed_values _ a.values (values_long a.words.now a.k c.requires.0 c.requires.1) long
     (rw (
       sym c.plan_value.ensures,
       sym c.plan_value-2.ensures,

@@ -10,18 +10,6 @@ returns-then-r c = tt
 pub loop-c-init : goal.loop-c-init
 loop-c-init c = (omega arith, omega arith, omega arith)
 
-pub loop-c-preserved : goal.loop-c-preserved
-loop-c-preserved c =
-    let i = c.loop-c.invariant in
-    let n = c.requires.atoms in
-    let in-loop = c.loop-c-test.true in
-    let h0 = i.0 in
-    let h1 = i.1 in (
-      ⊎_elim (λ w. let e = w.4 in omega arith) (λ w. let e = w.2 in omega arith) c.if-x-r.branch,
-      ⊎_elim (λ w. let e = w.5 in ⊎_elim (λ v. let g = v.1 in omega arith) (λ v. let g = v.1 in omega arith) w.2.came) (λ w. let e = w.3 in omega arith) c.if-x-r.branch,
-      omega arith,
-    )
-
 pub overflow_mul-result : goal.overflow_mul-result
 overflow_mul-result c = let i = c.loop-c.invariant in let h1 = i.1 in let h2 = i.2 in omega arith
 

@@ -29,7 +29,7 @@ returns-then-r-ne-NOTED c =
     let rest = c.union.ensures in
     record {
       small = all.small;
-      at_i = λ n h l z. all.left (place r.i) (c.«open».ensures.1 h l z);
+      at_i = λ n h l z. all.left (place r.i) (c.open-i.ensures.1 h l z);
       at_a = λ n h l z. all.right (place r.a) (rest.left (place r.a) (c.open-a.ensures.1 h l z));
       at_b = λ n h l z. all.right (place r.b) (rest.right (place r.b) (c.open-b.ensures.1 h l z));
       at_ids = λ n z. absurd (c.if-r-ne-NOTED.true z);
@@ -44,7 +44,7 @@ returns c =
     let rest = c.union.ensures in
     record {
       small = whole.small;
-      at_i = λ n h l z. whole.left (place r.i) (all.left (place r.i) (c.«open».ensures.1 h l z));
+      at_i = λ n h l z. whole.left (place r.i) (all.left (place r.i) (c.open-i.ensures.1 h l z));
       at_a = λ n h l z. whole.left (place r.a) (all.right (place r.a) (rest.left (place r.a) (c.open-a.ensures.1 h l z)));
       at_b = λ n h l z. whole.left (place r.b) (all.right (place r.b) (rest.right (place r.b) (c.open-b.ensures.1 h l z)));
       at_ids = λ n z. whole.right 8 refl;

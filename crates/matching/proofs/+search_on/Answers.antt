@@ -1,0 +1,59 @@
+-- All answers of a row that leaves everything as it was are what was found before it, so the first match that counts is that of the rows behind it.
+use Prim.Native.Nat.{ℕ, ◌+◌, ◌-◌, ◌<◌}
+use native.Mathlib.Omega.{arith}
+use mathlib.Core.Path.{◌≡◌, refl, sym, ap, ◌∙◌, subst}
+use mathlib.Core.List.{List, [], ◌∷◌, ◌++◌}
+use lib.Dec.{eqb}
+use borrow.Author.Rules.{rules}
+use Rattle.lists.specs.Lists.{bit, first_of, bind}
+use Rattle.lists.proofs.Bind.{append-nil}
+use Rattle.lists.proofs.Search.{Only, only_more, spent, reached, pruned}
+use Rattle.model.specs.declared.Row.{Row}
+use Rattle.model.specs.Matching.{Found}
+use Rattle.program.specs.Rows.{row_at}
+use Rattle.program.proofs.Words.{row_inside}
+use Rattle.queries.specs.View.{found_in}
+use Rattle.queries.specs.Answers.{answers, given_ids}
+use Rattle.queries.proofs.Answers.{only_answers}
+use Rattle.matching.specs.Rules.{reasons_in, counted}
+use Rattle.matching.proofs.Rows.{reasons_next, counted_next, given_none, given_one}
+use Rattle.matching.proofs.+search_on.Goals as goal
+
+only_first : {A : Type 0} (e v : A) (l r : List A) → Only e l → l ≡ v ∷ r → v ≡ e
+only_first e v l r o n = at (subst (Only e) n o)
+  where
+    at : Only e (v ∷ r) → v ≡ e
+    at (only_more p a) = p
+
+pub search_on-requires : goal.search_on-requires
+search_on-requires t c =
+    let a = c.args in
+    let p = c.requires in
+    let more = c.if-rule-k.false in
+    let n = reasons_next a.program.now a.k a.rule.body p.2 c.row_at-r.result c.row_at-r.ensures in
+    let q = p.3 in
+    (omega arith, (p.0, p.1, omega arith, omega arith, (p.4.0, c.next_answer.ensures.sized.1)))
+
+pub returns-clause-is : goal.returns-clause-is
+returns-clause-is t c =
+    let a = c.args in
+    let r = c.row_at-r.result in
+    let f : Found = found_in a.values.now [] 0 in
+    let M : Found → List Found = counted a.program.now a.words.now a.s a.rule (a.k + 1) in
+    let L : Row → ℕ → List Found = λ r n. bind (answers a.words.now a.s r f n) M in
+    let v : Found = found_in c.next_answer.new.values c.next_answer.new.matched (0 + given_ids r) in
+    let rest = answers a.words.now a.s r f c.next_answer.result in
+    let begins : first_of (L (row_at a.program.now a.k) a.from) ≡ first_of (L r 0 ++ []) =
+    ap (λ (n : ℕ). first_of (L (row_at a.program.now a.k) n)) c.if-from-ne0.false
+    ∙ ap (λ (r : Row). first_of (L r 0)) (sym c.row_at-r.ensures) ∙ ap {B = List Found} first_of (sym (append-nil (L r 0))) in
+    let one : answers a.words.now a.s r f 0 ≡ v ∷ rest = given_one a.words.now a.s r a.values.now [] a.matched.now _ _ 0 0 _ _ refl c.next_answer.ensures.is c.if-next_answer-eq0.false _ refl in
+    let only = only_answers a.words.now a.s r f (sym c.closes.ensures ∙ c.if-not-closes.false) in
+    let more = c.if-rule-k.false in
+    let next = counted_next a.program.now a.words.now a.s a.rule (a.k + 1) f (omega (arith, more)) (row_at a.program.now (a.k + 1)) refl in
+    let same : M v ≡ _ = ap M (only_first f v (answers a.words.now a.s r f 0) rest only one) ∙ next in
+    let e = c.search_on.ensures in
+    record {
+      high = e.is.high;
+      finds = λ h. reached _ M [] begins v rest one _ (e.is.finds h ∙ ap first_of (sym same)) refl;
+      fails = λ h. pruned f _ M [] begins only v rest one [] (sym (ap first_of same ∙ e.is.fails h)) refl;
+    }
