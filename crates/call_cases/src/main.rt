@@ -5,35 +5,35 @@
 
 use interpreter::Reply;
 use state::{Config, Scalars};
+use std::io;
 
-fn say(x: u64, after: &[u8]) {
-    io::print_decimal(1, x);
-    io::write_all(1, after);
+fn say(rt: &impl Print, x: u64, after: &str) -> io::Result<()> {
+    print!(rt; "{x}{after}")
 }
 
-fn tell_plan(words: [u32; 2432]) {
-    io::write_all(1, b"  ");
+fn tell_plan(rt: &impl Print, words: [u32; 2432]) -> io::Result<()> {
+    print!(rt; "  ")?;
     let q = state::plan_at(&words, 0);
-    say(q.left as u64, b" ");
-    say(q.flags as u64, b" ");
-    say(q.subgoal as u64, b"");
+    say(rt, q.left as u64, " ")?;
+    say(rt, q.flags as u64, " ")?;
+    say(rt, q.subgoal as u64, "")
 }
 
-fn tell(case: u64, r: Reply) {
+fn tell(rt: &impl Print, case: u64, r: Reply) -> io::Result<()> {
     let scalars = r.config.scalars;
     let words = r.config.words;
-    say(case, b" ");
-    say(r.number as u64, b" ");
-    say(r.made as u64, b" ");
-    say(r.gone as u64, b"  ");
-    say(scalars.phase as u64, b" ");
-    say(scalars.waiting as u64, b" ");
-    say(scalars.atoms as u64, b" ");
-    say(scalars.plans as u64, b"");
+    say(rt, case, " ")?;
+    say(rt, r.number as u64, " ")?;
+    say(rt, r.made as u64, " ")?;
+    say(rt, r.gone as u64, "  ")?;
+    say(rt, scalars.phase as u64, " ")?;
+    say(rt, scalars.waiting as u64, " ")?;
+    say(rt, scalars.atoms as u64, " ")?;
+    say(rt, scalars.plans as u64, "")?;
     if 0 < scalars.plans {
-        tell_plan(words);
+        tell_plan(rt, words)?;
     }
-    io::write_all(1, b"\n");
+    println!(rt)
 }
 
 // The reading 1(3, 1200) is atom 1, it justifies plan 2, whose first step made the subgoal 3(3, 1200), atom 3.
@@ -108,58 +108,80 @@ fn sensed(program: &[u32]) -> Config {
     }
 }
 
-fn senses(program: &[u32]) {
-    tell(1, readings(program));
+fn senses(rt: &impl Print, program: &[u32]) -> io::Result<()> {
+    tell(rt, 1, readings(program))?;
     tell(
+        rt,
         2,
         interpreter::sense(program, sensed(program), &[2, 1, 3, 1200]),
-    );
+    )?;
     tell(
+        rt,
         3,
         interpreter::sense(program, sensed(program), &[2, 1, 4, 4095]),
-    );
+    )?;
     tell(
+        rt,
         4,
         interpreter::sense(program, sensed(program), &[2, 2, 4, 4095]),
-    );
-    tell(5, interpreter::sense(program, sensed(program), &[]));
-    tell(6, interpreter::sense(program, sensed(program), &[1, 1, 3]));
+    )?;
+    tell(rt, 5, interpreter::sense(program, sensed(program), &[]))?;
     tell(
+        rt,
+        6,
+        interpreter::sense(program, sensed(program), &[1, 1, 3]),
+    )?;
+    tell(
+        rt,
         7,
         interpreter::sense(program, sensed(program), &[1, 1, 3, 7, 3, 1, 3, 7]),
-    );
+    )?;
     tell(
+        rt,
         8,
         interpreter::sense(program, sensed(program), &[0u32; 260]),
-    );
-    tell(9, interpreter::sense(program, waiting(), &[2, 1, 3, 1200]));
-    tell(10, interpreter::sense(program, raised(), &[2, 1, 3, 1200]));
-    tell(11, interpreter::sense(program, raised(), &[2, 3, 3, 1200]));
+    )?;
     tell(
+        rt,
+        9,
+        interpreter::sense(program, waiting(), &[2, 1, 3, 1200]),
+    )?;
+    tell(
+        rt,
+        10,
+        interpreter::sense(program, raised(), &[2, 1, 3, 1200]),
+    )?;
+    tell(
+        rt,
+        11,
+        interpreter::sense(program, raised(), &[2, 3, 3, 1200]),
+    )?;
+    tell(
+        rt,
         12,
         interpreter::sense(program, raised(), &[1, 1, 9, 9, 2, 1, 3, 1200]),
-    );
+    )
 }
 
-fn deletes(program: &[u32]) {
-    tell(13, interpreter::delete(program, raised(), 1));
-    tell(14, interpreter::delete(program, raised(), 2));
-    tell(15, interpreter::delete(program, raised(), 3));
-    tell(16, interpreter::delete(program, raised(), 4));
-    tell(17, interpreter::delete(program, raised(), 0));
-    tell(18, interpreter::delete(program, waiting(), 2));
+fn deletes(rt: &impl Print, program: &[u32]) -> io::Result<()> {
+    tell(rt, 13, interpreter::delete(program, raised(), 1))?;
+    tell(rt, 14, interpreter::delete(program, raised(), 2))?;
+    tell(rt, 15, interpreter::delete(program, raised(), 3))?;
+    tell(rt, 16, interpreter::delete(program, raised(), 4))?;
+    tell(rt, 17, interpreter::delete(program, raised(), 0))?;
+    tell(rt, 18, interpreter::delete(program, waiting(), 2))
 }
 
-fn answers(program: &[u32]) {
-    tell(19, interpreter::answer(program, waiting(), 1));
-    tell(20, interpreter::answer(program, waiting(), 0));
-    tell(21, interpreter::answer(program, waiting(), 2));
-    tell(22, interpreter::answer(program, raised(), 1));
+fn answers(rt: &impl Print, program: &[u32]) -> io::Result<()> {
+    tell(rt, 19, interpreter::answer(program, waiting(), 1))?;
+    tell(rt, 20, interpreter::answer(program, waiting(), 0))?;
+    tell(rt, 21, interpreter::answer(program, waiting(), 2))?;
+    tell(rt, 22, interpreter::answer(program, raised(), 1))
 }
 
 // A plan without its rule, ids that were not given out, rows that are no program.
-fn ill_formed(program: &[u32]) {
-    tell(23, interpreter::delete(&[], raised(), 1));
+fn ill_formed(rt: &impl Print, program: &[u32]) -> io::Result<()> {
+    tell(rt, 23, interpreter::delete(&[], raised(), 1))?;
     let late = raised();
     let words = late.words;
     let scalars = late.scalars;
@@ -167,109 +189,120 @@ fn ill_formed(program: &[u32]) {
         words: words,
         scalars: scalars.with_counts(3, 1),
     };
-    tell(24, interpreter::delete(program, config, 1));
-    tell(25, interpreter::delete(&[1, 1, 1], Config::fresh(), 1));
+    tell(rt, 24, interpreter::delete(program, config, 1))?;
+    tell(rt, 25, interpreter::delete(&[1, 1, 1], Config::fresh(), 1))
 }
 
 // The first words of a program.
-fn first(words: [u32; 4096], n: usize) {
+fn first(rt: &impl Print, words: [u32; 4096], n: usize) -> io::Result<()> {
     if n <= 4096 {
         let program = &words[..n];
-        senses(program);
-        deletes(program);
-        answers(program);
-        ill_formed(program);
+        senses(rt, program)?;
+        deletes(rt, program)?;
+        answers(rt, program)?;
+        ill_formed(rt, program)?;
     }
+    Ok(())
 }
 
-fn play(case: u64, text: &[u8], words: &[u32]) {
+fn play(rt: &impl Print, case: u64, text: &[u8], words: &[u32]) -> io::Result<()> {
     let p = interpreter::play(text, words);
     let scalars = p.config.scalars;
-    say(case, b" ");
-    say(p.number as u64, b" ");
-    say(p.line as u64, b" ");
-    say(p.calls as u64, b" ");
-    say(p.made as u64, b" ");
-    say(p.gone as u64, b"  ");
-    say(scalars.phase as u64, b" ");
-    say(scalars.cycle as u64, b" ");
-    say(scalars.atoms as u64, b" ");
-    say(scalars.plans as u64, b"\n");
+    say(rt, case, " ")?;
+    say(rt, p.number as u64, " ")?;
+    say(rt, p.line as u64, " ")?;
+    say(rt, p.calls as u64, " ")?;
+    say(rt, p.made as u64, " ")?;
+    say(rt, p.gone as u64, "  ")?;
+    say(rt, scalars.phase as u64, " ")?;
+    say(rt, scalars.cycle as u64, " ")?;
+    say(rt, scalars.atoms as u64, " ")?;
+    say(rt, scalars.plans as u64, "\n")
 }
 
 // "the run above", and "then withdraw 1 3 1200: gone 3, none alive".
-fn play_key(text: &[u8]) {
+fn play_key(rt: &impl Print, text: &[u8]) -> io::Result<()> {
     play(
+        rt,
         26,
         text,
         &[
             1, 0, 4, 1, 1, 3, 1200, 2, 0, 0, 2, 0, 0, 2, 0, 0, 2, 0, 0, 2, 0, 0, 2, 0, 0, 1, 0, 4,
             2, 1, 3, 1200,
         ],
-    );
+    )
 }
 
 // Refused: a step and an answer out of turn, delete 0; a second sense, a word that is no program.
-fn play_refused(text: &[u8]) {
+fn play_refused(rt: &impl Print, text: &[u8]) -> io::Result<()> {
     play(
+        rt,
         27,
         text,
         &[2, 0, 0, 3, 0, 1, 4, 0, 0, 1, 0, 4, 1, 1, 3, 1200, 4, 0, 1],
-    );
-    play(28, text, &[1, 0, 0, 1, 0, 0, 2, 2, 0, 7]);
+    )?;
+    play(rt, 28, text, &[1, 0, 0, 1, 0, 0, 2, 2, 0, 7])
 }
 
 // Under no rows 1(4, 4095) stays what it is, and a step ends the cycle; the loaded ceiling withdraws 2(4, 4095), which is not there.
 // A ceiling of its own; one that takes a reading as predicate 0.
-fn play_own(text: &[u8]) {
+fn play_own(rt: &impl Print, text: &[u8]) -> io::Result<()> {
     play(
+        rt,
         29,
         text,
         &[1, 1, 4, 1, 1, 4, 4095, 2, 1, 0, 1, 0, 4, 2, 1, 4, 4095],
-    );
-    play(30, text, &[1, 9, 0, 0, 0, 0, 40, 9, 1, 4104, 12]);
-    play(31, text, &[1, 9, 0, 0, 0, 0, 40, 9, 1, 4104, 9]);
+    )?;
+    play(rt, 30, text, &[1, 9, 0, 0, 0, 0, 40, 9, 1, 4104, 12])?;
+    play(rt, 31, text, &[1, 9, 0, 0, 0, 0, 40, 9, 1, 4104, 9])
 }
 
 // The words end in the middle of the readings, of the program, of the header; a kind that is none.
-fn play_ended(text: &[u8]) {
-    play(32, text, &[1, 0, 4, 1, 1, 3, 1200, 1, 0, 8, 2, 1, 3, 1200]);
-    play(33, text, &[1, 0, 0, 2, 9, 0, 1, 1, 1]);
-    play(34, text, &[1, 0, 0, 2, 0]);
-    play(35, text, &[4, 0, 0, 5, 0, 0, 1, 0, 0]);
+fn play_ended(rt: &impl Print, text: &[u8]) -> io::Result<()> {
+    play(
+        rt,
+        32,
+        text,
+        &[1, 0, 4, 1, 1, 3, 1200, 1, 0, 8, 2, 1, 3, 1200],
+    )?;
+    play(rt, 33, text, &[1, 0, 0, 2, 9, 0, 1, 1, 1])?;
+    play(rt, 34, text, &[1, 0, 0, 2, 0])?;
+    play(rt, 35, text, &[4, 0, 0, 5, 0, 0, 1, 0, 0])
 }
 
 // A refused load; an initial atom, deleted.
-fn play_loads() {
+fn play_loads(rt: &impl Print) -> io::Result<()> {
     play(
+        rt,
         36,
         b"set rule part op i p a b\n0 0 0 40 0 1 4095\n",
         &[1, 0, 0],
-    );
+    )?;
     play(
+        rt,
         37,
         b"set rule part op i p a b\n0 0 0 41 0 7 1 2\n",
         &[4, 0, 1],
-    );
+    )
 }
 
-fn plays() {
+fn plays(rt: &impl Print) -> io::Result<()> {
     let key =
         b"set rule part op i p a b\n0 0 0 40 0 1 4095 2\n1 1 1 1 -1 1 -2 -3\n1 1 3 36 -9 3 -2 -3\n2 1 2 3 -1 0 -9 -9\n2 1 2 12 -1 0 2 0\n2 1 3 23 -1 0 2 0\n";
-    play_key(key);
-    play_refused(key);
-    play_own(key);
-    play_ended(key);
-    play_loads();
+    play_key(rt, key)?;
+    play_refused(rt, key)?;
+    play_own(rt, key)?;
+    play_ended(rt, key)?;
+    play_loads(rt)
 }
 
-fn main() {
+fn main(rt: HostRuntime) -> io::Result<()> {
     let mut rows = [0u32; 4096];
     let r = loading::load(
         b"set rule part op i p a b\n0 0 0 40 0 1 4095 2\n1 1 1 1 -1 1 -2 -3\n1 1 3 36 -9 3 -2 -3\n1 1 3 31 0 9 -2 -3\n",
         &mut rows,
         Config::fresh(),
     );
-    first(rows, r.rows as usize * 8);
-    plays();
+    first(&rt, rows, r.rows as usize * 8)?;
+    plays(&rt)
 }

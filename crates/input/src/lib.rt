@@ -1,7 +1,9 @@
-// Standard input, line by line, in a lent buffer.
+// What is read, line by line in a lent buffer, or whole.
 #![tactic(auto)]
 
 ghost use Rattle.std.specs.Prelude.{◌≡◌, ◌+◌, ◌-◌, ◌≤◌, length};
+
+use std::io::Read;
 
 // What stands where a line was looked for.
 #[derive(Clone, Copy)]
@@ -46,19 +48,44 @@ fn slide(buffer: &mut [u8], from: usize, count: usize)
     }
 }
 
+// One read: how many bytes it put at the front. A read that fails puts none.
+fn read_some<R: Read>(reader: &mut R, buffer: &mut [u8]) -> usize
+    ensures { result ≤ length buffer.new }
+{
+    match reader.read(buffer) {
+        Ok(count) => count,
+        Err(_) => 0,
+    }
+}
+
 // What is left comes to the front, and more is read behind it: how many bytes there are then.
-fn refill(buffer: &mut [u8], from: usize, to: usize) -> usize
+fn refill<R: Read>(reader: &mut R, buffer: &mut [u8], from: usize, to: usize) -> usize
     requires { (from ≤ to) × (to ≤ length buffer.old) }
     ensures { (to - from ≤ result) × (result ≤ length buffer.new) }
 {
     let left = to - from;
     slide(buffer, from, left);
-    let got = libc::read(0, &mut buffer[left..]);
-    left + io::count(got, &buffer[left..])
+    let got = read_some(reader, &mut buffer[left..]);
+    left + got
 }
 
-// The line that begins at a place, of up to 4,096 bytes.
-pub fn next_line(buffer: &mut [u8], from: usize, to: usize) -> Next
+// Reads until the buffer is full, the input ends or a read fails: how many bytes stand at the front then.
+pub fn read_full<R: Read>(reader: &mut R, buffer: &mut [u8]) -> usize
+    ensures { result ≤ length buffer.new }
+{
+    let mut done: usize = 0;
+    while done < buffer.len() {
+        let got = read_some(reader, &mut buffer[done..]);
+        if got == 0 {
+            return done;
+        }
+        done += got;
+    }
+    done
+}
+
+// The line that begins at a place, of up to 4,096 bytes. A read that fails counts as the end of the input.
+pub fn next_line<R: Read>(reader: &mut R, buffer: &mut [u8], from: usize, to: usize) -> Next
     requires { (from ≤ to) × (to ≤ length buffer.old) }
     ensures { (result.from ≤ result.end) × (result.end ≤ result.from + 4096) × (result.end ≤ result.behind) × (result.behind ≤ result.to) × (result.to ≤ length buffer.new) }
 {
@@ -79,7 +106,7 @@ pub fn next_line(buffer: &mut [u8], from: usize, to: usize) -> Next
             };
         }
         let left = held - begin;
-        held = refill(buffer, begin, held);
+        held = refill(reader, buffer, begin, held);
         begin = 0;
         if held == 0 {
             return none(Kind::End);

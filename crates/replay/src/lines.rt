@@ -1,13 +1,15 @@
 // A line of the script: what it asks for is done, or the script is left.
 ghost use Rattle.std.specs.Prelude.{◌≤◌, length};
-ghost use Rattle.io.specs.Counts.{IsPrefixLen};
 ghost use Rattle.script.specs.Reading.{Within};
 
-use crate::output::Bench;
+use crate::output::{Bench, Page};
 use crate::{calls, output, raw};
 use input::Kind;
 use script::{Command, Found};
 use state::Config;
+use std::rt::Files;
+use std::time::{CpuClock, Duration};
+use std::{fs, io, str};
 
 // The bench after a line, and how many rows the program has then.
 #[derive(Clone, Copy)]
@@ -17,27 +19,27 @@ pub struct Turned {
 }
 
 // `error line L: `
-fn put_error(b: Bench, out: &mut [u8; 4096]) -> usize {
+fn put_error(b: Bench, out: &mut Page) -> usize {
     let at = output::put(out, b.at, b"error line ");
     let at = output::put_number(out, at, b.line);
     output::put(out, at, b": ")
 }
 
-fn fail(b: Bench, reason: &[u8], out: &mut [u8; 4096]) -> Bench {
+fn fail(b: Bench, reason: &[u8], out: &mut Page) -> Bench {
     let at = put_error(b, out);
     let at = output::put(out, at, reason);
     b.over(output::put(out, at, b"\n"))
 }
 
 // A word of the line, and what is wrong with it.
-fn fail_word(b: Bench, before: &[u8], word: &[u8], after: &[u8], out: &mut [u8; 4096]) -> Bench {
+fn fail_word(b: Bench, before: &[u8], word: &[u8], after: &[u8], out: &mut Page) -> Bench {
     let at = put_error(b, out);
     let at = output::put(out, at, before);
     let at = output::put(out, at, word);
     b.over(output::put(out, at, after))
 }
 
-fn fail_count(b: Bench, wanted: usize, there: usize, out: &mut [u8; 4096]) -> Bench {
+fn fail_count(b: Bench, wanted: usize, there: usize, out: &mut Page) -> Bench {
     let at = put_error(b, out);
     let at = output::put_number(out, at, wanted as u64);
     let at = output::put(out, at, b" numbers are wanted, ");
@@ -46,32 +48,39 @@ fn fail_count(b: Bench, wanted: usize, there: usize, out: &mut [u8; 4096]) -> Be
 }
 
 // Up to 65,536 bytes of a file: a program's text is shorter. "one it cannot open counts as empty"
-fn read_file(path: &[u8], text: &mut [u8]) -> usize
-    ensures { IsPrefixLen result text.new }
+fn read_file(rt: &impl Files, path: &[u8], text: &mut [u8]) -> usize
+    ensures { result ≤ length text.new }
 {
-    let file = os::open_read(path);
-    if file < 0 {
-        return 0;
+    match str::from_utf8(path) {
+        Ok(name) => read_named(rt, name, text),
+        Err(_) => 0,
     }
-    let n = io::read_full(file, text);
-    libc::close(file);
-    n
+}
+
+fn read_named(rt: &impl Files, name: &str, text: &mut [u8]) -> usize
+    ensures { result ≤ length text.new }
+{
+    match fs::open(rt, name) {
+        Ok(mut file) => input::read_full(&mut file, text),
+        Err(_) => 0,
+    }
 }
 
 // `load FILE`, or `program FILE`, which keeps the configuration.
 fn load(
+    rt: &impl Files,
     program: &mut [u32; 4096],
     rows: u32,
     path: &[u8],
     is_program: bool,
     b: Bench,
-    out: &mut [u8; 4096],
+    out: &mut Page,
 ) -> Turned
     requires { rows ≤ 512 }
     ensures { result.rows ≤ 512 }
 {
-    let mut text = io::large_buffer();
-    let n = read_file(path, &mut text);
+    let mut text = [0u8; 65536];
+    let n = read_file(rt, path, &mut text);
     let config = b.config;
     let r = loading::load(&text[..n], program, config);
     if r.number != 0 {
@@ -98,13 +107,14 @@ fn load(
 
 // The one word behind the command is a file's name.
 fn load_line(
+    rt: &impl Files,
     program: &mut [u32; 4096],
     rows: u32,
     line: &[u8],
     end: usize,
     is_program: bool,
     b: Bench,
-    out: &mut [u8; 4096],
+    out: &mut Page,
 ) -> Turned
     requires { (rows ≤ 512) × (end ≤ length line.now) }
     ensures { result.rows ≤ 512 }
@@ -115,10 +125,10 @@ fn load_line(
             rows,
         };
     }
-    load(program, rows, &line[end + 1..], is_program, b, out)
+    load(rt, program, rows, &line[end + 1..], is_program, b, out)
 }
 
-fn add_atom(numbers: &[u32; 4096], b: Bench, out: &mut [u8; 4096]) -> Bench {
+fn add_atom(numbers: &[u32; 4096], b: Bench, out: &mut Page) -> Bench {
     let config = b.config;
     let scalars = config.scalars;
     if Config::MOST_ATOMS <= scalars.atoms {
@@ -127,7 +137,7 @@ fn add_atom(numbers: &[u32; 4096], b: Bench, out: &mut [u8; 4096]) -> Bench {
     b.with(raw::with_atom(config, numbers), b.at)
 }
 
-fn add_plan(numbers: &[u32; 4096], b: Bench, out: &mut [u8; 4096]) -> Bench {
+fn add_plan(numbers: &[u32; 4096], b: Bench, out: &mut Page) -> Bench {
     let config = b.config;
     let scalars = config.scalars;
     if Config::MOST_PLANS <= scalars.plans {
@@ -136,7 +146,7 @@ fn add_plan(numbers: &[u32; 4096], b: Bench, out: &mut [u8; 4096]) -> Bench {
     b.with(raw::with_plan(config, numbers), b.at)
 }
 
-fn dump(b: Bench, out: &mut [u8; 4096]) -> Bench {
+fn dump(b: Bench, out: &mut Page) -> Bench {
     let config = b.config;
     let words = config.words;
     let scalars = config.scalars;
@@ -145,29 +155,30 @@ fn dump(b: Bench, out: &mut [u8; 4096]) -> Bench {
 }
 
 // 0 where the time cannot be told.
-fn microseconds(time: i64) -> u64 {
-    if time < 0 {
-        return 0;
+fn microseconds(time: io::Result<Duration>) -> u64 {
+    match time {
+        Ok(spent) => u64::try_from(spent.as_micros()).unwrap_or(0),
+        Err(_) => 0,
     }
-    time as u64
 }
 
-// Processor time: POSIX's CLOCKS_PER_SEC is 1,000,000.
-fn clock(b: Bench, out: &mut [u8; 4096]) -> Bench {
+// Processor time.
+fn clock(rt: &impl CpuClock, b: Bench, out: &mut Page) -> Bench {
     let config = b.config;
     let at = output::put(out, b.at, b"clock ");
-    let at = output::put_number(out, at, microseconds(libc::clock()));
+    let at = output::put_number(out, at, microseconds(rt.process_cpu_time()));
     b.with(config, output::put(out, at, b"\n"))
 }
 
 // A command with its numbers. Those that take none of them came by another way.
 fn obey(
+    rt: &impl CpuClock,
     program: &[u32],
     command: Command,
     numbers: &[u32; 4096],
     count: usize,
     b: Bench,
-    out: &mut [u8; 4096],
+    out: &mut Page,
 ) -> Bench
     requires { count ≤ 4096 }
 {
@@ -183,7 +194,7 @@ fn obey(
         Command::Config => b.with(raw::begun(numbers), b.at),
         Command::Atom => add_atom(numbers, b, out),
         Command::Plan => add_plan(numbers, b, out),
-        Command::Clock => clock(b, out),
+        Command::Clock => clock(rt, b, out),
         _ => b,
     }
 }
@@ -211,19 +222,20 @@ fn find_numbers(command: Command, line: &[u8], end: usize, numbers: &mut [u32]) 
 
 // A command and its numbers, with a program of so many words.
 fn numbers_line(
+    rt: &impl CpuClock,
     program: &[u32],
     words: usize,
     command: Command,
     line: &[u8],
     end: usize,
     b: Bench,
-    out: &mut [u8; 4096],
+    out: &mut Page,
 ) -> Bench
     requires { (words ≤ length program.now) × (end ≤ length line.now) × (length line.now ≤ 4096) }
 {
     let mut numbers = [0u32; 4096];
     match find_numbers(command, line, end, &mut numbers) {
-        Found::Numbers(count) => obey(&program[..words], command, &numbers, count, b, out),
+        Found::Numbers(count) => obey(rt, &program[..words], command, &numbers, count, b, out),
         Found::Miscounted { wanted, there } => fail_count(b, wanted, there, out),
         Found::NoNumber { k: _, from, to } => {
             fail_word(b, b"not a number: `", &line[from..to], b"`\n", out)
@@ -232,11 +244,12 @@ fn numbers_line(
 }
 
 fn replay(
+    rt: &(impl Files + CpuClock),
     program: &mut [u32; 4096],
     rows: u32,
     line: &[u8],
     b: Bench,
-    out: &mut [u8; 4096],
+    out: &mut Page,
 ) -> Turned
     requires { (rows ≤ 512) × (length line.now ≤ 4096) }
     ensures { result.rows ≤ 512 }
@@ -247,14 +260,14 @@ fn replay(
     let end = script::word_end(line, 0);
     let command = script::command_of(&line[..end]);
     match command {
-        Command::Load => load_line(program, rows, line, end, false, b, out),
-        Command::Program => load_line(program, rows, line, end, true, b, out),
+        Command::Load => load_line(rt, program, rows, line, end, false, b, out),
+        Command::Program => load_line(rt, program, rows, line, end, true, b, out),
         Command::Unknown => Turned {
             bench: fail_word(b, b"unknown word: `", &line[..end], b"`\n", out),
             rows,
         },
         _ => Turned {
-            bench: numbers_line(program, rows as usize * 8, command, line, end, b, out),
+            bench: numbers_line(rt, program, rows as usize * 8, command, line, end, b, out),
             rows,
         },
     }
@@ -262,18 +275,19 @@ fn replay(
 
 // The next line of the script, or its end.
 fn take_line(
+    rt: &(impl Files + CpuClock),
     program: &mut [u32; 4096],
     rows: u32,
     line: &[u8],
     kind: Kind,
     b: Bench,
-    out: &mut [u8; 4096],
+    out: &mut Page,
 ) -> Turned
     requires { (rows ≤ 512) × (length line.now ≤ 4096) }
     ensures { result.rows ≤ 512 }
 {
     match kind {
-        Kind::Line => replay(program, rows, line, b, out),
+        Kind::Line => replay(rt, program, rows, line, b, out),
         Kind::End => Turned {
             bench: b.over(0),
             rows,
@@ -290,13 +304,20 @@ fn take_line(
 }
 
 // What a line prints is written.
-pub fn turn(program: &mut [u32; 4096], rows: u32, line: &[u8], kind: Kind, b: Bench) -> Turned
+pub fn turn(
+    rt: &(impl Files + CpuClock),
+    program: &mut [u32; 4096],
+    rows: u32,
+    line: &[u8],
+    kind: Kind,
+    b: Bench,
+    out: &mut Page,
+) -> Turned
     requires { (rows ≤ 512) × (length line.now ≤ 4096) }
     ensures { result.rows ≤ 512 }
 {
-    let mut out = io::buffer();
-    let turned = take_line(program, rows, line, kind, b, &mut out);
+    let turned = take_line(rt, program, rows, line, kind, b, out);
     let bench = turned.bench;
-    output::write(&out, bench.at);
+    output::write(out, bench.at);
     turned
 }

@@ -18,7 +18,7 @@
 // clock              clock T; processor time in microseconds
 //
 // A refused call prints `refused N: WORDS`, a refused load `refused N line L: WORDS`. A line that is not understood prints
-// `error line L: REASON` and ends the replay.
+// `error line L: REASON` and ends the replay, as output that cannot be written does.
 #![tactic(auto)]
 
 mod calls;
@@ -27,16 +27,19 @@ mod output;
 mod raw;
 mod reasons;
 
-use output::Bench;
+use output::{Bench, Page};
 use state::Config;
+use std::io;
 
 // A proved loop has to end: so many lines no script has.
 const MOST_LINES: u64 = 1000000000000000000;
 
-fn main() {
+fn main(rt: HostRuntime) -> io::Result<()> {
     let mut program = [0u32; 4096];
     let mut rows: u32 = 0;
-    let mut script = io::large_buffer();
+    let mut stdin = rt.stdin();
+    let mut page = Page::new(rt.stdout());
+    let mut script = [0u8; 65536];
     let mut from: usize = 0;
     let mut to: usize = 0;
     let mut bench = Bench {
@@ -48,23 +51,27 @@ fn main() {
     let mut line: u64 = 0;
     while line < MOST_LINES {
         line += 1;
-        let next = input::next_line(&mut script, from, to);
+        let next = input::next_line(&mut stdin, &mut script, from, to);
         let begin = next.from;
         let end = next.end;
         let kind = next.kind;
         let turned = lines::turn(
+            &rt,
             &mut program,
             rows,
             &script[begin..end],
             kind,
             bench.at_line(line),
+            &mut page,
         );
         bench = turned.bench;
         rows = turned.rows;
         from = next.behind;
         to = next.to;
+        page.written?;
         if bench.is_over {
-            return;
+            return Ok(());
         }
     }
+    Ok(())
 }

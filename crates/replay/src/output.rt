@@ -1,7 +1,10 @@
 // What is printed: bytes, numbers and the lines of the answers, gathered in a buffer that is written when it is full.
 use crate::reasons;
+use itoa::Buffer;
 use running::Stop;
 use state::{Config, Scalars};
+use std::io;
+use std::io::Stdout;
 use stepping::{Did, How, Made};
 
 // The configuration, the number of the script's line, how many bytes of output are gathered, and whether the script is left.
@@ -45,18 +48,36 @@ impl Bench {
     }
 }
 
+// The buffer, where it is written, and the last write that failed.
+#[derive(Drop)]
+pub struct Page {
+    bytes: [u8; 4096],
+    stdout: Stdout,
+    pub written: io::Result<()>,
+}
+
+impl Page {
+    pub fn new(stdout: Stdout) -> Page {
+        Page {
+            bytes: [0; 4096],
+            stdout,
+            written: Ok(()),
+        }
+    }
+}
+
 // One byte more. A buffer that is full is written first.
-fn put_byte(out: &mut [u8; 4096], at: usize, byte: u8) -> usize {
+fn put_byte(out: &mut Page, at: usize, byte: u8) -> usize {
     if 4096 <= at {
-        io::write_all(1, out);
-        out[0] = byte;
+        write(out, 4096);
+        out.bytes[0] = byte;
         return 1;
     }
-    out[at] = byte;
+    out.bytes[at] = byte;
     at + 1
 }
 
-pub fn put(out: &mut [u8; 4096], at: usize, bytes: &[u8]) -> usize {
+pub fn put(out: &mut Page, at: usize, bytes: &[u8]) -> usize {
     let mut next = at;
     let mut i: usize = 0;
     while i < bytes.len() {
@@ -66,20 +87,19 @@ pub fn put(out: &mut [u8; 4096], at: usize, bytes: &[u8]) -> usize {
     next
 }
 
-pub fn put_number(out: &mut [u8; 4096], at: usize, n: u64) -> usize {
-    let mut digits = [0u8; 20];
-    let k = io::decimal(n, &mut digits);
-    put(out, at, &digits[..k])
+pub fn put_number(out: &mut Page, at: usize, n: u64) -> usize {
+    let mut digits = Buffer::new();
+    put(out, at, digits.format(n).as_bytes())
 }
 
 // Words and the number behind them.
-pub fn put_with(out: &mut [u8; 4096], at: usize, words: &[u8], n: u32) -> usize {
+pub fn put_with(out: &mut Page, at: usize, words: &[u8], n: u32) -> usize {
     let next = put(out, at, words);
     put_number(out, next, n as u64)
 }
 
 // Numbers, a space before each.
-pub fn put_numbers(out: &mut [u8; 4096], at: usize, numbers: &[u32]) -> usize {
+pub fn put_numbers(out: &mut Page, at: usize, numbers: &[u32]) -> usize {
     let mut next = at;
     let mut i: usize = 0;
     while i < numbers.len() {
@@ -89,26 +109,29 @@ pub fn put_numbers(out: &mut [u8; 4096], at: usize, numbers: &[u32]) -> usize {
     next
 }
 
-fn write_first(bytes: &[u8], n: usize) {
+fn write_first(stdout: Stdout, bytes: &[u8], n: usize) -> io::Result<()> {
     if n <= bytes.len() {
-        io::write_all(1, &bytes[..n]);
+        stdout.write_all(&bytes[..n])?;
     }
+    Ok(())
 }
 
 // Writes what was gathered.
-pub fn write(out: &[u8; 4096], at: usize) {
-    write_first(out, at);
+pub fn write(out: &mut Page, at: usize) {
+    if let Err(e) = write_first(out.stdout, &out.bytes, at) {
+        out.written = Err(e);
+    }
 }
 
 // The end of the line of an accepted call.
-pub fn put_sums(out: &mut [u8; 4096], at: usize, made: u32, gone: u32) -> usize {
+pub fn put_sums(out: &mut Page, at: usize, made: u32, gone: u32) -> usize {
     let at = put_with(out, at, b" made ", made);
     let at = put_with(out, at, b" gone ", gone);
     put(out, at, b"\n")
 }
 
 // A colon, the cause of a refusal, the end of the line.
-fn put_cause(out: &mut [u8; 4096], at: usize, number: u32) -> usize {
+fn put_cause(out: &mut Page, at: usize, number: u32) -> usize {
     let words = refusals::refusal_words(number);
     let bytes = words.bytes;
     let n = words.length;
@@ -117,19 +140,13 @@ fn put_cause(out: &mut [u8; 4096], at: usize, number: u32) -> usize {
     put(out, at, b"\n")
 }
 
-pub fn put_refused(out: &mut [u8; 4096], at: usize, number: u32) -> usize {
+pub fn put_refused(out: &mut Page, at: usize, number: u32) -> usize {
     let at = put_with(out, at, b"refused ", number);
     put_cause(out, at, number)
 }
 
 // A refused load, with the cause as exact as it can be told.
-pub fn put_load_refused(
-    out: &mut [u8; 4096],
-    at: usize,
-    text: &[u8],
-    number: u32,
-    line: u32,
-) -> usize {
+pub fn put_load_refused(out: &mut Page, at: usize, text: &[u8], number: u32, line: u32) -> usize {
     let at = put_with(out, at, b"refused ", number);
     let at = put_with(out, at, b" line ", line);
     let at = put(out, at, b": ");
@@ -139,7 +156,7 @@ pub fn put_load_refused(
 
 // A call with no answer of its own but what it made and what went.
 pub fn put_changed(
-    out: &mut [u8; 4096],
+    out: &mut Page,
     at: usize,
     word: &[u8],
     number: u32,
@@ -153,7 +170,7 @@ pub fn put_changed(
     put_sums(out, at, made, gone)
 }
 
-fn put_fired(out: &mut [u8; 4096], at: usize, set: u32, rule: u32, made: Made) -> usize {
+fn put_fired(out: &mut Page, at: usize, set: u32, rule: u32, made: Made) -> usize {
     let at = put_with(out, at, b"fired ", set);
     let at = put_with(out, at, b" ", rule);
     match made {
@@ -163,7 +180,7 @@ fn put_fired(out: &mut [u8; 4096], at: usize, set: u32, rule: u32, made: Made) -
     }
 }
 
-fn put_executed(out: &mut [u8; 4096], at: usize, plan: u32, how: How) -> usize {
+fn put_executed(out: &mut Page, at: usize, plan: u32, how: How) -> usize {
     let at = put_with(out, at, b"executed ", plan);
     match how {
         How::Empty => put(out, at, b" empty"),
@@ -174,7 +191,7 @@ fn put_executed(out: &mut [u8; 4096], at: usize, plan: u32, how: How) -> usize {
 }
 
 // What a step did, with the phase or the cycle that it left.
-fn put_did(out: &mut [u8; 4096], at: usize, did: Did, left: Scalars) -> usize {
+fn put_did(out: &mut Page, at: usize, did: Did, left: Scalars) -> usize {
     match did {
         Did::Fired { set, rule, made } => put_fired(out, at, set, rule, made),
         Did::MovedOn => put_with(out, at, b"moved ", left.phase),
@@ -188,19 +205,12 @@ fn put_did(out: &mut [u8; 4096], at: usize, did: Did, left: Scalars) -> usize {
     }
 }
 
-pub fn put_step(
-    out: &mut [u8; 4096],
-    at: usize,
-    did: Did,
-    left: Scalars,
-    made: u32,
-    gone: u32,
-) -> usize {
+pub fn put_step(out: &mut Page, at: usize, did: Did, left: Scalars, made: u32, gone: u32) -> usize {
     let at = put_did(out, at, did, left);
     put_sums(out, at, made, gone)
 }
 
-fn put_stop(out: &mut [u8; 4096], at: usize, stop: Stop) -> usize {
+fn put_stop(out: &mut Page, at: usize, stop: Stop) -> usize {
     match stop {
         Stop::Phase0 => put(out, at, b"phase0"),
         Stop::Waiting => put(out, at, b"waiting"),
@@ -209,14 +219,7 @@ fn put_stop(out: &mut [u8; 4096], at: usize, stop: Stop) -> usize {
     }
 }
 
-pub fn put_run(
-    out: &mut [u8; 4096],
-    at: usize,
-    steps: u32,
-    stop: Stop,
-    made: u32,
-    gone: u32,
-) -> usize {
+pub fn put_run(out: &mut Page, at: usize, steps: u32, stop: Stop, made: u32, gone: u32) -> usize {
     let at = put_with(out, at, b"ran ", steps);
     let at = put(out, at, b" until ");
     let at = put_stop(out, at, stop);

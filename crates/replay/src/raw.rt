@@ -2,6 +2,7 @@
 ghost use Rattle.std.specs.Prelude.{◌≡◌, ◌+◌, ◌<◌, ◌≤◌, length};
 
 use crate::output;
+use crate::output::Page;
 use state::{Config, Scalars};
 
 // `config PHASE CYCLE NEXT WAITING`
@@ -69,7 +70,7 @@ pub fn with_plan(config: Config, numbers: &[u32; 4096]) -> Config
 }
 
 // A line of a record.
-fn put_record(out: &mut [u8; 4096], at: usize, word: &[u8], record: &[u32]) -> usize {
+fn put_record(out: &mut Page, at: usize, word: &[u8], record: &[u32]) -> usize {
     let at = output::put(out, at, word);
     let at = output::put_numbers(out, at, record);
     output::put(out, at, b"\n")
@@ -77,7 +78,7 @@ fn put_record(out: &mut [u8; 4096], at: usize, word: &[u8], record: &[u32]) -> u
 
 // Records of a width, one line each, as far as the words go.
 fn put_records(
-    out: &mut [u8; 4096],
+    out: &mut Page,
     at: usize,
     word: &[u8],
     words: &[u32],
@@ -102,7 +103,7 @@ fn put_records(
 }
 
 // The atoms, one line each, as far as there are places.
-fn put_atoms(out: &mut [u8; 4096], at: usize, words: &[u32], count: usize) -> usize
+fn put_atoms(out: &mut Page, at: usize, words: &[u32], count: usize) -> usize
     requires { length words.now ≡ 2432 }
 {
     let mut next = at;
@@ -119,7 +120,7 @@ fn put_atoms(out: &mut [u8; 4096], at: usize, words: &[u32], count: usize) -> us
 }
 
 // The whole configuration.
-pub fn put_config(out: &mut [u8; 4096], at: usize, words: &[u32], scalars: Scalars) -> usize
+pub fn put_config(out: &mut Page, at: usize, words: &[u32], scalars: Scalars) -> usize
     requires { length words.now ≡ 2432 }
 {
     let at = put_record(

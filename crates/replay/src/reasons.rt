@@ -1,17 +1,18 @@
 // The cause of a refused load in plain words: which column, which variable, which limit.
 use crate::output;
+use crate::output::Page;
 use causes::{Breach, Lack, Limit, Unvalued};
 use explain::{Cause, Layout};
 
 // What the refusal's number says, where nothing more exact is known.
-fn put_plain(out: &mut [u8; 4096], at: usize, number: u32) -> usize {
+fn put_plain(out: &mut Page, at: usize, number: u32) -> usize {
     let words = refusals::refusal_words(number);
     let bytes = words.bytes;
     let n = words.length;
     output::put(out, at, &bytes[..n])
 }
 
-fn put_name(out: &mut [u8; 4096], at: usize, column: u32) -> usize {
+fn put_name(out: &mut Page, at: usize, column: u32) -> usize {
     match column {
         1 => output::put(out, at, b"set"),
         2 => output::put(out, at, b"rule"),
@@ -25,7 +26,7 @@ fn put_name(out: &mut [u8; 4096], at: usize, column: u32) -> usize {
 }
 
 // `column 5 (i)`
-fn put_column(out: &mut [u8; 4096], at: usize, column: u32) -> usize {
+fn put_column(out: &mut Page, at: usize, column: u32) -> usize {
     let at = output::put_with(out, at, b"column ", column);
     let at = output::put(out, at, b" (");
     let at = put_name(out, at, column);
@@ -33,7 +34,7 @@ fn put_column(out: &mut [u8; 4096], at: usize, column: u32) -> usize {
 }
 
 // "p runs 0 to 255; the others 0 to 65,535, but i, a, b from -9"
-fn put_range(out: &mut [u8; 4096], at: usize, column: u32) -> usize {
+fn put_range(out: &mut Page, at: usize, column: u32) -> usize {
     match column {
         1 | 2 | 3 | 4 => output::put(out, at, b"0 to 65535"),
         6 => output::put(out, at, b"0 to 255"),
@@ -42,7 +43,7 @@ fn put_range(out: &mut [u8; 4096], at: usize, column: u32) -> usize {
 }
 
 // A part of a line, as far as the line goes.
-fn put_word(out: &mut [u8; 4096], at: usize, line: &[u8], from: usize, to: usize) -> usize {
+fn put_word(out: &mut Page, at: usize, line: &[u8], from: usize, to: usize) -> usize {
     if line.len() < to {
         return at;
     }
@@ -52,7 +53,7 @@ fn put_word(out: &mut [u8; 4096], at: usize, line: &[u8], from: usize, to: usize
     output::put(out, at, &line[from..to])
 }
 
-fn put_layout(out: &mut [u8; 4096], at: usize, layout: Layout, line: &[u8]) -> usize {
+fn put_layout(out: &mut Page, at: usize, layout: Layout, line: &[u8]) -> usize {
     match layout {
         Layout::Names => output::put(
             out,
@@ -79,7 +80,7 @@ fn put_layout(out: &mut [u8; 4096], at: usize, layout: Layout, line: &[u8]) -> u
     }
 }
 
-fn put_limit(out: &mut [u8; 4096], at: usize, limit: Limit) -> usize {
+fn put_limit(out: &mut Page, at: usize, limit: Limit) -> usize {
     match limit {
         Limit::Set(n) => {
             let at = output::put_with(out, at, b"set ", n);
@@ -99,7 +100,7 @@ fn put_limit(out: &mut [u8; 4096], at: usize, limit: Limit) -> usize {
     }
 }
 
-fn put_lack(out: &mut [u8; 4096], at: usize, lack: Lack) -> usize {
+fn put_lack(out: &mut Page, at: usize, lack: Lack) -> usize {
     match lack {
         Lack::Condition => output::put(out, at, b"the rule has no row of part 1 or 2"),
         Lack::Body => output::put(
@@ -111,14 +112,7 @@ fn put_lack(out: &mut [u8; 4096], at: usize, lack: Lack) -> usize {
 }
 
 // `set 3 after set 1: ..`
-fn put_order(
-    out: &mut [u8; 4096],
-    at: usize,
-    word: &[u8],
-    n: u32,
-    last: u32,
-    rule: &[u8],
-) -> usize {
+fn put_order(out: &mut Page, at: usize, word: &[u8], n: u32, last: u32, rule: &[u8]) -> usize {
     let at = output::put(out, at, word);
     let at = output::put_with(out, at, b" ", n);
     let at = output::put(out, at, b" after ");
@@ -128,7 +122,7 @@ fn put_order(
 }
 
 // `op 2 may not stand in part 1 (reasons), only 1`
-fn put_standing(out: &mut [u8; 4096], at: usize, op: u32, place: u32) -> usize {
+fn put_standing(out: &mut Page, at: usize, op: u32, place: u32) -> usize {
     let at = output::put_with(out, at, b"op ", op);
     let at = output::put(out, at, b" may not stand in ");
     match place {
@@ -142,14 +136,14 @@ fn put_standing(out: &mut [u8; 4096], at: usize, op: u32, place: u32) -> usize {
 }
 
 // `column 7 (a) of op 11 must be ..`
-fn put_must(out: &mut [u8; 4096], at: usize, column: u32, op: u32, what: &[u8]) -> usize {
+fn put_must(out: &mut Page, at: usize, column: u32, op: u32, what: &[u8]) -> usize {
     let at = put_column(out, at, column);
     let at = output::put_with(out, at, b" of op ", op);
     let at = output::put(out, at, b" must be ");
     output::put(out, at, what)
 }
 
-fn put_breach(out: &mut [u8; 4096], at: usize, breach: Breach) -> usize {
+fn put_breach(out: &mut Page, at: usize, breach: Breach) -> usize {
     match breach {
         Breach::SetOrder { last, set } => {
             put_order(out, at, b"set", set, last, b": sets rise one by one from 1")
@@ -211,7 +205,7 @@ fn put_breach(out: &mut [u8; 4096], at: usize, breach: Breach) -> usize {
 }
 
 // `variable V3 in column 8 (b) has no value here`
-fn put_unvalued(out: &mut [u8; 4096], at: usize, unvalued: Unvalued) -> usize {
+fn put_unvalued(out: &mut Page, at: usize, unvalued: Unvalued) -> usize {
     let at = output::put_with(out, at, b"variable V", unvalued.variable);
     let at = output::put(out, at, b" in ");
     let at = put_column(out, at, unvalued.column);
@@ -219,7 +213,7 @@ fn put_unvalued(out: &mut [u8; 4096], at: usize, unvalued: Unvalued) -> usize {
 }
 
 // Why the load of a text is refused with this number.
-pub fn put_reason(out: &mut [u8; 4096], at: usize, text: &[u8], number: u32) -> usize {
+pub fn put_reason(out: &mut Page, at: usize, text: &[u8], number: u32) -> usize {
     if text.len() == 0 {
         return output::put(out, at, b"the file is empty, or it cannot be opened");
     }

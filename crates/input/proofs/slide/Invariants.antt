@@ -1,8 +1,5 @@
 -- The measure is how many bytes are left.
-use mathlib.Core.Path.{◌≡◌}
-use Prim.Native.Nat.{◌-◌}
-use lib.ListN.{length}
-use borrow.Author.Rules.{rules}
+use Rattle.std.proofs.Common.{◌≡◌, ◌-◌, length}
 use Rattle.input.proofs.slide.Given as goal
 
 abbrev pub invariant-loop-i : goal.invariant-loop-i

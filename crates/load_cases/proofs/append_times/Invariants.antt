@@ -1,6 +1,5 @@
 -- The measure is how many times are left.
-use Prim.Native.Nat.{◌-◌}
-use borrow.Author.Rules.{rules}
+use Rattle.std.proofs.Common.{◌-◌}
 use Rattle.load_cases.proofs.append_times.Given as goal
 
 abbrev pub invariant-loop-k : goal.invariant-loop-k

@@ -1,8 +1,5 @@
 -- The script stands within its buffer, and the program has at most 512 rows. The measure is how many lines are left.
-use mathlib.Core.Path.{◌≡◌}
-use Prim.Native.Nat.{◌-◌, ◌≤◌}
-use lib.ListN.{length}
-use borrow.Author.Rules.{rules}
+use Rattle.std.proofs.Common.{◌≡◌, ◌-◌, ◌≤◌, length}
 use Rattle.replay.proofs.main.Given as goal
 
 abbrev pub invariant-loop-line : goal.invariant-loop-line

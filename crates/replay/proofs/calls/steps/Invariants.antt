@@ -1,6 +1,5 @@
 -- The measure is how many steps are left.
-use Prim.Native.Nat.{◌-◌}
-use borrow.Author.Rules.{rules}
+use Rattle.std.proofs.Common.{◌-◌}
 use Rattle.replay.proofs.calls.steps.Given as goal
 
 abbrev pub invariant-loop-k : goal.invariant-loop-k

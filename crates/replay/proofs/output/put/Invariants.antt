@@ -1,7 +1,5 @@
 -- The measure is what is left of the bytes.
-use Prim.Native.Nat.{◌-◌, ◌≤◌}
-use lib.ListN.{length}
-use borrow.Author.Rules.{rules}
+use Rattle.std.proofs.Common.{◌-◌, ◌≤◌, length}
 use Rattle.replay.proofs.output.put.Given as goal
 
 abbrev pub invariant-loop-i : goal.invariant-loop-i

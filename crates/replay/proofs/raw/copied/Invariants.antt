@@ -1,6 +1,5 @@
 -- The measure is how many numbers are left.
-use Prim.Native.Nat.{◌-◌}
-use borrow.Author.Rules.{rules}
+use Rattle.std.proofs.Common.{◌-◌}
 use Rattle.replay.proofs.raw.copied.Given as goal
 
 abbrev pub invariant-loop-i : goal.invariant-loop-i

@@ -1,6 +1,5 @@
 -- The measure is how many atoms are left.
-use borrow.Author.Rules.{rules}
-use Prim.Native.Nat.{◌-◌}
+use Rattle.std.proofs.Common.{◌-◌}
 use Rattle.replay.proofs.raw.put_atoms.Given as goal
 
 abbrev pub invariant-loop-k : goal.invariant-loop-k

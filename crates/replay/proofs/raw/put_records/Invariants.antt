@@ -1,7 +1,5 @@
 -- The record that begins next stands within the words. The measure is how many are left.
-use Prim.Native.Nat.{◌-◌, ◌≤◌}
-use lib.ListN.{length}
-use borrow.Author.Rules.{rules}
+use Rattle.std.proofs.Common.{◌-◌, ◌≤◌, length}
 use Rattle.replay.proofs.raw.put_records.Given as goal
 
 abbrev pub invariant-loop-k : goal.invariant-loop-k
