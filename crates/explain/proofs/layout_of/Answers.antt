@@ -15,19 +15,19 @@ returns-then-line-at-eq32 c = at_column c.loop-column-test.true c.loop-column.in
 -- no integer, or one out of range
 pub returns-in_default : goal.returns-in_default
 returns-in_default c =
-    let none = sym (sym c.enum_told-1.given.1 ∙ c.read_int.ensures) in
+    let none = sym (sym c.in_default.is ∙ c.read_int.ensures) in
     at_column c.loop-column-test.true c.loop-column.invariant.begins (unread c.if-line-at.false c.if-line-at-eq32.false none c.word_end-to.ensures)
 
 pub returns-then-outside : goal.returns-then-outside
 returns-then-outside c =
-    let number = sym (sym c.x-1.given.1 ∙ c.read_int.ensures) in
+    let number = sym c.in-Number.ensures in
     at_column c.loop-column-test.true c.loop-column.invariant.begins (far number (sym c.outside.ensures ∙ c.if-outside.true) c.word_end-to.ensures)
 
 -- too few columns
 pub returns-then-line-n : goal.returns-then-line-n
 returns-then-line-n c =
     let turn = c.loop-column in
-    let number = sym (sym c.x-1.given.1 ∙ c.read_int.ensures) in
+    let number = sym c.in-Number.ensures in
     let inside = sym c.outside.ensures ∙ c.if-outside.false in
     let less = few_columns turn.invariant c.loop-column-test.true number inside c.if-line-n.true c.requires in
     at_column c.loop-column-test.true turn.invariant.begins (few less number inside c.if-line-n.true)
@@ -35,13 +35,13 @@ returns-then-line-n c =
 -- more than an integer
 pub returns-then-line-n-ne32 : goal.returns-then-line-n-ne32
 returns-then-line-n-ne32 c =
-    let number = sym (sym c.x-1.given.1 ∙ c.read_int.ensures) in
+    let number = sym c.in-Number.ensures in
     at_column c.loop-column-test.true c.loop-column.invariant.begins (more number c.if-line-n.false c.if-line-n-ne32.true c.word_end-to.ensures)
 
 pub loop-column-preserved : goal.loop-column-preserved
 loop-column-preserved c =
     let turn = c.loop-column in
-    let number = sym (sym c.x-1.given.1 ∙ c.read_int.ensures) in
+    let number = sym c.in-Number.ensures in
     let inside = sym c.outside.ensures ∙ c.if-outside.false in
     before_next turn.invariant c.loop-column-test.true number inside c.if-line-n.false c.if-line-n-ne32.false
 

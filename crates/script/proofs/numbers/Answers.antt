@@ -9,13 +9,13 @@ pub loop-at-init : goal.loop-at-init
 loop-at-init c = search (rules, passing_first)
 
 pub returns-in_default : goal.returns-in_default
-returns-in_default c = (search rules, stops c.loop-at.invariant c.loop-at-test.true c.word_end-end.ensures (sym c.enum_told-1.given.1 ∙ c.read_number.ensures))
+returns-in_default c = record { within = search rules; read = stops c.loop-at.invariant c.loop-at-test.true c.word_end-end.ensures (sym c.in_default.is ∙ c.read_number.ensures) }
 
 pub bounds-out-k : goal.bounds-out-k
 bounds-out-k c = has_room c.loop-at.invariant c.loop-at-test.true
 
 pub loop-at-preserved : goal.loop-at-preserved
-loop-at-preserved c = passes c.loop-at.invariant c.loop-at-test.true c.word_end-end.ensures _ (sym c.n-1.given.1 ∙ c.read_number.ensures)
+loop-at-preserved c = passes c.loop-at.invariant c.loop-at-test.true c.word_end-end.ensures _ c.in-Value.ensures
 
 pub returns : goal.returns
-returns c = (search rules, ends c.loop-at.invariant c.loop-at-test.false)
+returns c = record { within = search rules; read = ends c.loop-at.invariant c.loop-at-test.false }
