@@ -15,4 +15,4 @@ unfolding atom_line
 returns c =
     let a = c.args in
     let p = c.put_line in
-    (subst (λ (x : Atom). Puts (line (atom_line x)) a.out.now a.at p.new.0 p.result) c.atom_at-x.ensures p.ensures.0, p.ensures.1)
+    record { puts = subst (λ (x : Atom). Puts (line (atom_line x)) a.out.now a.at p.new.out p.result) c.atom_at-x.ensures p.ensures.puts; short = p.ensures.short }

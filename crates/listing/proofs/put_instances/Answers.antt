@@ -27,7 +27,7 @@ pub loop-i-preserved-then-is_atom_next : goal.loop-i-preserved-then-is_atom_next
 loop-i-preserved-then-is_atom_next c =
     let i = c.loop-i.invariant in
     let p = c.put_atom-next in
-    (listed_atom _ _ _ _ _ _ _ _ i.0 i.1 p.new.1.1.0 p.result (sym c.is_atom_next.ensures ∙ c.if-is_atom_next.true) p.ensures.0 p.ensures.1, i.1, i.2, i.3)
+    (listed_atom _ _ _ _ _ _ _ _ i.0 i.1 p.new.out p.result (sym c.is_atom_next.ensures ∙ c.if-is_atom_next.true) p.ensures.puts p.ensures.short, i.1, i.2, i.3)
 
 pub put_plan-next-requires : goal.put_plan-next-requires
 put_plan-next-requires c =
@@ -41,7 +41,7 @@ pub loop-i-preserved : goal.loop-i-preserved
 loop-i-preserved c =
     let i = c.loop-i.invariant in
     let p = c.put_plan-next in
-    (listed_plan _ _ _ _ _ _ _ _ i.0 i.1 p.new.1.1.0 p.result (omega arith) (sym c.is_atom_next.ensures ∙ c.if-is_atom_next.false) p.ensures.0 p.ensures.1, i.1, i.2, i.3)
+    (listed_plan _ _ _ _ _ _ _ _ i.0 i.1 p.new.out p.result (omega arith) (sym c.is_atom_next.ensures ∙ c.if-is_atom_next.false) p.ensures.puts p.ensures.short, i.1, i.2, i.3)
 
 pub shape_of-out : goal.shape_of-out
 shape_of-out c = puts_long _ _ c.loop-i.invariant.0.puts
@@ -51,4 +51,4 @@ returns c =
     let i = c.loop-i.invariant in
     let o = i.1 in
     let w = i.0 in
-    (listed_end _ _ _ _ _ _ _ _ w (omega arith), omega arith)
+    record { puts = listed_end _ _ _ _ _ _ _ _ w (omega arith); short = omega arith }

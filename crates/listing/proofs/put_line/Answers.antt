@@ -18,13 +18,13 @@ pub loop-k-preserved : goal.loop-k-preserved
 loop-k-preserved c =
     let a = c.args in
     let n = c.put_number-next.ensures in
-    (rw (front_more c.loop-k.k a.t3 (omega arith)) (puts_then a.out.now a.at c.loop-k.invariant.0 n.0), omega (arith, n.1), omega arith, c.loop-k.invariant.3)
+    (rw (front_more c.loop-k.k a.numbers (omega arith)) (puts_then a.out.now a.at c.loop-k.invariant.0 n.puts), omega (arith, n.short), omega arith, c.loop-k.invariant.3)
 
 pub put_number-requires : goal.put_number-requires
 put_number-requires c = omega (arith, puts_long _ _ c.loop-k.invariant.0)
 
 pub shape_of-out : goal.shape_of-out
-shape_of-out c = c.put_number.auto.0 ∙ puts_long _ _ c.loop-k.invariant.0
+shape_of-out c = c.put_number.auto.out ∙ puts_long _ _ c.loop-k.invariant.0
 
 pub returns : goal.returns
 returns c =
@@ -32,4 +32,4 @@ returns c =
     let n = c.put_number.ensures in
     let e : c.loop-k.k ≡ 5 = omega arith in
     let w = rw e at c.loop-k.invariant.0 in
-    (rw (← (six a.t3 c.loop-k.invariant.3)) (puts_then a.out.now a.at w n.0), omega (arith, n.1))
+    record { puts = rw (← (six a.numbers c.loop-k.invariant.3)) (puts_then a.out.now a.at w n.puts); short = omega (arith, n.short) }

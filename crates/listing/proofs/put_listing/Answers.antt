@@ -12,4 +12,5 @@ returns c =
     let a = c.args in
     let n = c.put_bytes-next.ensures in
     let p = c.put_instances.ensures in
-    listing_put (config_of a.words.now a.scalars) n p.0 (omega (arith, n.behind, p.1))
+    let w = listing_put (config_of a.words.now a.scalars) n p.puts (omega (arith, n.behind, p.short)) in
+    record { out_after = w.0; length = w.1 }

@@ -17,4 +17,4 @@ returns c =
     let a = c.args in
     let p = c.put_line in
     let e = plan_line_is (plan_at a.words.now a.k) c.plan_id-id.ensures c.plan_set-set.ensures c.plan_rule-rule.ensures c.plan_left-left.ensures c.plan_subgoal-subgoal.ensures in
-    (subst (λ (l : List ℕ). Puts (line l) a.out.now a.at p.new.0 p.result) e p.ensures.0, p.ensures.1)
+    record { puts = subst (λ (l : List ℕ). Puts (line l) a.out.now a.at p.new.out p.result) e p.ensures.puts; short = p.ensures.short }

@@ -9,5 +9,5 @@ pub returns : goal.returns
 returns c =
     let a = c.args in
     let n = c.put_number.ensures in
-    let p = rw (← (refusal_is a.number)) at n.0 in
-    (puts_first (omega (arith, n.1)) p, omega (arith, p.behind))
+    let p = rw (← (refusal_is a.number)) at n.puts in
+    record { out_after = puts_first (omega (arith, n.short)) p; length = omega (arith, p.behind) }
