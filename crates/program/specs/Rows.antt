@@ -1,5 +1,5 @@
 -- A program as it is lent: words, eight to a row, in the order of the text's columns; operands are held 9 higher.
-use Rattle.std.specs.Prelude.{ℕ, ◌+◌, ◌*◌, ◌/◌, ◌%◌, Bool, ◌&&◌, List, [], ◌∷◌, map, eqb, length, get_or}
+use Rattle.std.specs.Prelude.{ℕ, ◌/◌, ◌%◌, Bool, ◌&&◌, List, [], ◌∷◌, map, eqb, length, get_or}
 use Rattle.lists.specs.Lists.{bind, count_up}
 use Rattle.table.specs.Rows.{row}
 use Rattle.model.specs.declared.Row.{Row}

@@ -8,7 +8,7 @@ use native.Mathlib.Omega.{arith}
 use lib.Dec.{leb, ltb, eqb}
 use lib.ListN.{length}
 use borrow.Author.Tests.{leb-true, leb-false, ltb-true, ltb-false, lt-ltb, le-ltb, eqb-true, eqb-false, eq-eqb, ne_eqb}
-use Rattle.lists.specs.Lists.{In, later, Pairs, keep, count_up}
+use Rattle.lists.specs.Lists.{Pairs, keep, count_up}
 use Rattle.lists.proofs.Search.{in_count_up}
 use Rattle.lists.proofs.Lists.{test, clash, map_append, or_cases}
 use Rattle.lists.proofs.Tests.{map_pairs, count_up_append}

@@ -15,7 +15,6 @@ use Rattle.model.specs.Text.{digits, digit?, counting, positive, negative, read_
 use Rattle.model.specs.Text as Text
 use Rattle.text.specs.Reading.{read_of, int_at, as_line, row_line, line_of}
 use Rattle.text.specs.declared.Cursor.{Cursor}
-use Rattle.text.specs.declared.Read.{Read}
 use Rattle.text.specs.declared.Read.TheVariants.{Number, Unreadable}
 use Rattle.text.specs.declared.Line.TheVariants.{Unread}
 use Rattle.lists.proofs.Cuts.{if_either, drop_next, Suffix, suffix_self, suffix_cons, suffix_drop}

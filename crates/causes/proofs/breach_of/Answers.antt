@@ -1,5 +1,4 @@
 -- A row that is in order and of its set's kind, and stands where it may, breaks a rule by its columns (`misfits_of`).
-use borrow.Author.Rules.{rules}
 use Rattle.causes.proofs.Complete.{is_wrong, is_right, misfits_of}
 use Rattle.causes.proofs.breach_of.Goals as goal
 

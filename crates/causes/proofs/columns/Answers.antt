@@ -1,6 +1,5 @@
 -- Where no part of the tests finds a column wrong, the row is a second ceiling (`second_ceiling`).
 use mathlib.Core.Path.{refl}
-use borrow.Author.Rules.{rules}
 use Rattle.causes.proofs.Complete.{is_wrong, is_right, second_ceiling}
 use Rattle.causes.proofs.columns.Goals as goal
 

@@ -1,7 +1,6 @@
 -- `causes::limit_of` meets its contract.
 use mathlib.Core.Path.{refl}
 use Rattle.causes.proofs.Tests.{part_left}
-use borrow.Author.Rules.{rules}
 use Rattle.causes.proofs.limit_of.Goals as goal
 
 pub returns : goal.returns

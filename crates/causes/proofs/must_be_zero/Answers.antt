@@ -1,5 +1,4 @@
 -- `causes::must_be_zero` meets its contract.
-use borrow.Author.Rules.{rules}
 use Rattle.causes.proofs.must_be_zero.Goals as goal
 
 pub returns : goal.returns

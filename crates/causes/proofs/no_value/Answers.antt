@@ -1,6 +1,5 @@
 -- `causes::no_value` meets its contract.
 use mathlib.Core.Path.{refl, sym, ◌∙◌}
-use borrow.Author.Rules.{rules}
 use Rattle.causes.proofs.no_value.Goals as goal
 
 pub returns-then-must_be_given : goal.returns-then-must_be_given

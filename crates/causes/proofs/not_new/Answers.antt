@@ -3,7 +3,6 @@ use mathlib.Core.Path.{sym, ◌∙◌}
 use Rattle.model.specs.Program.{any?}
 use borrow.Author.Tests.{eq-eqb}
 use Rattle.lists.proofs.Lists.{or_right}
-use borrow.Author.Rules.{rules}
 use Rattle.causes.proofs.not_new.Goals as goal
 
 pub returns-then-r-ne21 : goal.returns-then-r-ne21

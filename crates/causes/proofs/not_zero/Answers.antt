@@ -1,6 +1,5 @@
 -- `causes::not_zero` meets its contract.
 use mathlib.Core.Path.{refl, sym, ◌∙◌}
-use borrow.Author.Rules.{rules}
 use Rattle.causes.proofs.not_zero.Goals as goal
 
 pub returns-then-must_be_zero : goal.returns-then-must_be_zero

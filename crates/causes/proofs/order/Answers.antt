@@ -1,6 +1,5 @@
 -- `causes::order` meets its contract.
 use native.Mathlib.Omega.{arith}
-use borrow.Author.Rules.{rules}
 use Rattle.causes.proofs.Complete.{order_same, order_next_rule, order_next_set, order_set_0}
 use Rattle.causes.proofs.order.Goals as goal
 

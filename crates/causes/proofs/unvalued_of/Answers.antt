@@ -2,7 +2,6 @@
 use mathlib.Core.Path.{refl, sym, ◌∙◌}
 use native.Mathlib.Omega.{arith}
 use Rattle.causes.proofs.Tests.{new_small, in_body, i_left, not_21}
-use borrow.Author.Rules.{rules}
 use Rattle.causes.proofs.unvalued_of.Goals as goal
 
 pub overflow_sub-result : goal.overflow_sub-result

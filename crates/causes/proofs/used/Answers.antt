@@ -1,6 +1,5 @@
 -- `causes::used` meets its contract.
 use mathlib.Core.Path.{refl, sym, ◌∙◌}
-use borrow.Author.Rules.{rules}
 use Rattle.causes.proofs.used.Goals as goal
 
 pub returns-then-must_be_predicate : goal.returns-then-must_be_predicate

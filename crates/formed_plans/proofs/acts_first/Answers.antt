@@ -1,6 +1,5 @@
 -- A step is there, and it is an external action.
 use lib.Dec.{eqb}
-use borrow.Author.Rules.{rules}
 use Rattle.model.specs.declared.Row.{Row}
 use Rattle.formed_plans.proofs.Steps.{some_when}
 use Rattle.formed_plans.proofs.acts_first.Goals as goal

@@ -1,6 +1,5 @@
 -- The parts stand one behind the other, and the rows between two bounds are the part.
 use mathlib.Core.Path.{refl}
-use borrow.Author.Rules.{rules}
 use Rattle.spans.proofs.Spans.{bounds_rise, span_is}
 use Rattle.formed_plans.proofs.clauses_of.Goals as goal
 

@@ -2,7 +2,6 @@
 use mathlib.Core.Path.{sym}
 use mathlib.Core.Bool.{and-true}
 use native.Mathlib.Omega.{arith}
-use borrow.Author.Rules.{rules}
 use Rattle.lists.proofs.Cuts.{within_below, within_above}
 use Rattle.formed_plans.specs.Plans.{within_limits}
 use Rattle.formed_plans.proofs.Within.{demanded_bounds, demanded_value}

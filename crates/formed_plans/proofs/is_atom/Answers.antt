@@ -1,5 +1,4 @@
 -- A number stands among the ids exactly where its place is one of them.
-use borrow.Author.Rules.{rules}
 use Rattle.lists.proofs.Tables.{index_member}
 use Rattle.state.specs.View.{atom_ids_of}
 use Rattle.formed_plans.proofs.Words.{atom_ids_long}

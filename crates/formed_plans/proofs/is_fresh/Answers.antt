@@ -1,7 +1,6 @@
 -- An id past every atom's is free.
 use mathlib.Core.Path.{sym, ap}
 use mathlib.Core.Bool.{not}
-use borrow.Author.Rules.{rules}
 use Rattle.formed_plans.proofs.is_fresh.Goals as goal
 
 pub returns-then-is_past : goal.returns-then-is_past

@@ -2,7 +2,6 @@
 use mathlib.Core.Path.{◌≡◌, sym, ap, ◌∙◌}
 use Prim.Native.Nat.{ℕ}
 use native.Mathlib.Omega.{arith}
-use borrow.Author.Rules.{rules}
 use Rattle.lists.specs.Tables.{index_of}
 use Rattle.state.specs.View.{plan_at, atom_ids_of}
 use Rattle.formed_plans.proofs.Steps.{subgoal_found, subgoal_absent}

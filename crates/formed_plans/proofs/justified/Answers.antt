@@ -2,7 +2,6 @@
 use mathlib.Core.Path.{refl, ap, ◌∙◌}
 use mathlib.Core.List.{[], ◌∷◌}
 use lib.ListN.{get_or}
-use borrow.Author.Rules.{rules}
 use Rattle.state.specs.View.{plan_at, atom_ids_of}
 use Rattle.state.proofs.View.{justification_words}
 use Rattle.formed_plans.specs.Plans.{alive_below, justified}

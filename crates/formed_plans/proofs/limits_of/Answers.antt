@@ -1,7 +1,5 @@
-use Prim.Native.Nat.{◌-◌}
 use native.Mathlib.Omega.{arith}
-use borrow.Author.Rules.{rules}
-use Rattle.formed_plans.proofs.Within.{Limiting, limiting_starts, limiting_more, limiting_done}
+use Rattle.formed_plans.proofs.Within.{limiting_starts, limiting_more, limiting_done}
 use Rattle.formed_plans.proofs.limits_of.Goals as goal
 
 pub loop-j-init : goal.loop-j-init

@@ -1,8 +1,6 @@
 -- Within the limits so far, and with values for the variables of the rows from j on (`Limiting`).
 use Prim.Native.Nat.{◌-◌}
-use native.Mathlib.Omega.{arith}
-use borrow.Author.Rules.{rules}
-use Rattle.formed_plans.proofs.Within.{Limiting, limiting_starts, limiting_more, limiting_done}
+use Rattle.formed_plans.proofs.Within.{Limiting}
 use Rattle.formed_plans.proofs.limits_of.Given as goal
 
 abbrev pub invariant-loop-j : goal.invariant-loop-j

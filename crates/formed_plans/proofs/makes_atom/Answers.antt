@@ -1,5 +1,4 @@
 -- The atom is the one that the row's operands name.
-use borrow.Author.Rules.{rules}
 use Rattle.model.specs.WellFormed.{makes_atom}
 use Rattle.formed_plans.proofs.makes_atom.Goals as goal
 

@@ -1,5 +1,4 @@
 -- The test of a 0 stands apart from the others.
-use borrow.Author.Rules.{rules}
 use borrow.Author.Tests.{eq-eqb, ne_eqb}
 use Rattle.formed_plans.proofs.may_follow.Goals as goal
 

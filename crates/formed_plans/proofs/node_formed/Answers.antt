@@ -1,5 +1,4 @@
 -- The tests, one by one.
-use borrow.Author.Rules.{rules}
 use Rattle.state.specs.View.{plan_at, config_of}
 use Rattle.formed_plans.proofs.Tests.{node_tests}
 use Rattle.formed_plans.proofs.node_formed.Goals as goal

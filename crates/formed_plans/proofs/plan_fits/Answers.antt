@@ -1,5 +1,4 @@
 -- Both tests.
-use borrow.Author.Rules.{rules}
 use Rattle.formed_plans.specs.Plans.{plan_fits}
 use Rattle.formed_plans.proofs.plan_fits.Goals as goal
 

@@ -1,6 +1,5 @@
 -- The test of a 0 stands apart from the others.
 use mathlib.Core.Path.{sym, ◌∙◌}
-use borrow.Author.Rules.{rules}
 use borrow.Author.Tests.{eq-eqb, ne_eqb}
 use Rattle.state.specs.View.{plan_at}
 use Rattle.formed_plans.proofs.subgoal_alive.Goals as goal

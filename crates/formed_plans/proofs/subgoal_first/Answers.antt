@@ -1,7 +1,6 @@
 -- A step is there, and it makes the subgoal.
 use mathlib.Core.Path.{sym, ap, ◌∙◌}
 use mathlib.Core.Bool.{Bool, ◌&&◌}
-use borrow.Author.Rules.{rules}
 use borrow.Author.Tests.{eq-eqb, ne_eqb}
 use Rattle.model.specs.WellFormed.{is_subgoal_step}
 use Rattle.state.specs.View.{plan_at, config_of}

@@ -1,6 +1,5 @@
 -- The eight tests, one by one.
 use mathlib.Core.Bool.{and_assoc, and-true}
-use borrow.Author.Rules.{rules}
 use Rattle.lists.specs.Lists.{every}
 use Rattle.formed_plans.specs.Plans.{within_limits}
 use Rattle.formed_plans.proofs.within_limits.Goals as goal

@@ -1,5 +1,4 @@
 -- The span of the part named by the plan's set and rule.
-use borrow.Author.Rules.{rules}
 use Rattle.state.specs.View.{plan_at}
 use Rattle.plan_steps.proofs.Bodies.{span_body}
 use Rattle.plan_steps.proofs.body_of.Goals as goal

@@ -1,5 +1,4 @@
 -- Operands from 9 on are constants.
-use borrow.Author.Rules.{rules}
 use borrow.Author.Tests.{le-leb, lt-leb}
 use Rattle.model.specs.Configuration.{operand}
 use Rattle.plan_steps.proofs.operand.Goals as goal

@@ -2,7 +2,6 @@
 use mathlib.Core.Path.{sym}
 use Prim.Native.Nat.{◌-◌}
 use native.Mathlib.Omega.{arith}
-use borrow.Author.Rules.{rules}
 use Rattle.lists.proofs.Counted.{get_past}
 use Rattle.state.specs.View.{plan_at}
 use Rattle.state.proofs.View.{values_long}

@@ -1,10 +1,7 @@
-use borrow.Author.Rules.{rules}
 use Prim.Native.Nat.{◌-◌}
-use mathlib.Core.Path.{◌≡◌, refl, sym, ◌∙◌}
-use native.Mathlib.Omega.{arith}
+use mathlib.Core.Path.{◌≡◌}
 use lib.ListN.{length}
-use lib.Seq.{length-take-le}
-use Rattle.program.proofs.Loads.{Loading, refused_as, no_line, wrong_names, loading_begins, done_lacking, done, unended_line, unread_line, row_range, row_refused, row_room, row_taken}
+use Rattle.program.proofs.Loads.{Loading}
 use Rattle.rows.specs.Scanning.{whole as scanned}
 use Rattle.program.proofs.load.Given as goal
 

@@ -1,10 +1,7 @@
 use borrow.Author.Rules.{rules}
-use mathlib.Core.Path.{◌≡◌, refl, sym, ap, ◌∙◌}
+use mathlib.Core.Path.{refl, sym, ap, ◌∙◌}
 use mathlib.Core.Bool.{not}
-use Prim.Native.Nat.{◌-◌, ◌/◌}
-use lib.ListN.{length}
-use Rattle.rows.specs.Scanning.{whole as scanned}
-use Rattle.program.proofs.Checks.{Checking, checks_begin, checks_end, outside, row_refused, row_checked, predicate_small}
+use Rattle.program.proofs.Checks.{checks_begin, checks_end, outside, row_refused, row_checked, predicate_small}
 use Rattle.program.proofs.Words.{row_inside}
 use Rattle.program.proofs.passes.Goals as goal
 

@@ -1,13 +1,9 @@
 use borrow.Author.Rules.{rules}
 use borrow.Author.Tests.{not-false}
-use mathlib.Core.Path.{◌≡◌, refl, sym, ◌∙◌}
-use mathlib.Core.Bool.{false≢true}
-use Prim.Native.Nat.{◌-◌, ◌/◌}
+use mathlib.Core.Path.{refl, sym, ◌∙◌}
 use native.Mathlib.Omega.{arith}
-use lib.ListN.{length}
-use Rattle.rows.specs.Quickly.{scan_at}
 use Rattle.rows.proofs.Standing.{low_of}
-use Rattle.program.proofs.Checks.{Checking, checks_begin, checks_end, row_sure}
+use Rattle.program.proofs.Checks.{checks_begin, checks_end, row_sure}
 use Rattle.program.proofs.Words.{row_inside}
 use Rattle.program.proofs.passes_quickly.Goals as goal
 

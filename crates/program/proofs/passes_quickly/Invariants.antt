@@ -1,15 +1,9 @@
 -- As in `passes`, with the scan of the place, the count and what is lent; only that all rows pass is said.
-use borrow.Author.Rules.{rules}
-use borrow.Author.Tests.{not-false}
-use mathlib.Core.Path.{◌≡◌, refl, sym, ◌∙◌}
-use mathlib.Core.Bool.{false≢true}
+use mathlib.Core.Path.{◌≡◌}
 use Prim.Native.Nat.{◌-◌, ◌/◌}
-use native.Mathlib.Omega.{arith}
 use lib.ListN.{length}
 use Rattle.rows.specs.Quickly.{scan_at}
-use Rattle.rows.proofs.Standing.{low_of}
-use Rattle.program.proofs.Checks.{Checking, checks_begin, checks_end, row_sure}
-use Rattle.program.proofs.Words.{row_inside}
+use Rattle.program.proofs.Checks.{Checking}
 use Rattle.program.proofs.passes_quickly.Given as goal
 
 abbrev pub invariant-loop-k : goal.invariant-loop-k

@@ -1,6 +1,5 @@
 -- The words of the row in its place.
 use Rattle.program.specs.Rows.{row_words}
-use borrow.Author.Rules.{rules}
 use Rattle.program.proofs.put_row.Goals as goal
 
 pub returns : goal.returns

@@ -1,5 +1,4 @@
 -- `program::well_formed` meets its contract.
-use borrow.Author.Rules.{rules}
 use mathlib.Core.Path.{sym}
 use Rattle.program.proofs.Checks.{broken}
 use Rattle.program.proofs.well_formed.Goals as goal

@@ -1,7 +1,5 @@
-use Prim.Native.Nat.{◌-◌}
-use lib.ListN as ListN
 use borrow.Author.Rules.{rules}
-use Rattle.refusals.proofs.Copies.{Copied, copied_none, copied_more, copied_all}
+use Rattle.refusals.proofs.Copies.{copied_none, copied_more, copied_all}
 use Rattle.refusals.proofs.wording.Goals as goal
 
 pub loop-length-init : goal.loop-length-init

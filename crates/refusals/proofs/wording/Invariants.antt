@@ -1,8 +1,7 @@
 -- The bytes so far are those of the text. The measure is what is left of it.
 use Prim.Native.Nat.{◌-◌}
 use lib.ListN as ListN
-use borrow.Author.Rules.{rules}
-use Rattle.refusals.proofs.Copies.{Copied, copied_none, copied_more, copied_all}
+use Rattle.refusals.proofs.Copies.{Copied}
 use Rattle.refusals.proofs.wording.Given as goal
 
 abbrev pub invariant-loop-length : goal.invariant-loop-length

@@ -1,6 +1,5 @@
 -- `rows::action` meets its contract.
 use Rattle.model.specs.Load.{action as spec}
-use borrow.Author.Rules.{rules}
 use Rattle.rows.proofs.action.Goals as goal
 
 pub returns : goal.returns

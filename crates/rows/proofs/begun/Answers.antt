@@ -1,6 +1,5 @@
 use mathlib.Core.Path.{sym, ◌∙◌}
 use Rattle.model.specs.Load.{begun as spec}
-use borrow.Author.Rules.{rules}
 use Rattle.rows.proofs.begun.Goals as goal
 
 pub returns-then-same_rule : goal.returns-then-same_rule

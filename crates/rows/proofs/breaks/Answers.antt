@@ -1,6 +1,4 @@
 -- By the first test that fails, and the set that the row is of.
-use borrow.Author.Rules.{rules}
-use borrow.Author.Tests.{not-true, not-false}
 use mathlib.Core.Path.{sym, ap, ◌∙◌}
 use mathlib.Core.Bool.{not}
 use Rattle.model.specs.Load.{rule_row, action}

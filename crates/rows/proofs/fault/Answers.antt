@@ -1,6 +1,5 @@
 use mathlib.Core.Path.{sym, ◌∙◌}
 use Rattle.model.specs.Load.{too_many, valueless, fault as spec}
-use borrow.Author.Rules.{rules}
 use Rattle.rows.proofs.fault.Goals as goal
 
 pub returns-then-too_many : goal.returns-then-too_many

@@ -2,7 +2,6 @@
 use mathlib.Core.Bool.{and-false}
 use borrow.Author.Tests.{le-leb, lt-leb}
 use Rattle.model.specs.Load.{give as spec}
-use borrow.Author.Rules.{rules}
 use Rattle.rows.proofs.give.Goals as goal
 
 pub returns-then-x-lt1 : goal.returns-then-x-lt1

@@ -1,7 +1,6 @@
 -- `rows::gives` meets its contract.
 use borrow.Author.Tests.{eq-eqb, ne_eqb}
 use Rattle.model.specs.Load.{gives as spec}
-use borrow.Author.Rules.{rules}
 use Rattle.rows.proofs.gives.Goals as goal
 
 pub returns-then-odd : goal.returns-then-odd

@@ -1,5 +1,4 @@
 use Rattle.model.specs.Load.{with_ceiling as spec}
-use borrow.Author.Rules.{rules}
 use Rattle.rows.proofs.mark_ceiling.Goals as goal
 
 pub returns-then-r : goal.returns-then-r

@@ -1,6 +1,5 @@
 -- `rows::plan_step` meets its contract.
 use Rattle.model.specs.Load.{plan_step as spec}
-use borrow.Author.Rules.{rules}
 use Rattle.rows.proofs.plan_step.Goals as goal
 
 pub returns : goal.returns

@@ -1,5 +1,4 @@
 -- By the part that the row is of.
-use borrow.Author.Rules.{rules}
 use mathlib.Core.Path.{sym, ap, ◌∙◌}
 use mathlib.Core.Bool.{Bool, ◌&&◌, ◌||◌, not}
 use lib.Dec.{eqb, leb}

@@ -1,4 +1,3 @@
-use borrow.Author.Rules.{rules}
 use Rattle.rows.proofs.set_0_row.Goals as goal
 
 pub returns : goal.returns

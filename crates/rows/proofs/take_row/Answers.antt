@@ -1,5 +1,4 @@
 use Rattle.rows.proofs.Scans.{lacking_refused, fault_refused, row_passed, begun_small}
-use borrow.Author.Rules.{rules}
 use Rattle.rows.proofs.take_row.Goals as goal
 
 pub returns-then-left_lacking : goal.returns-then-left_lacking

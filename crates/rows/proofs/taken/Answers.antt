@@ -1,6 +1,5 @@
 use native.Mathlib.Omega.{arith}
 use Rattle.model.specs.Load.{taken as spec}
-use borrow.Author.Rules.{rules}
 use Rattle.rows.proofs.taken.Goals as goal
 
 pub overflow_add-result-4 : goal.overflow_add-result-4

@@ -1,6 +1,5 @@
 -- `rows::too_many` meets its contract.
 use Rattle.model.specs.Load.{too_many as spec}
-use borrow.Author.Rules.{rules}
 use Rattle.rows.proofs.too_many.Goals as goal
 
 pub returns : goal.returns

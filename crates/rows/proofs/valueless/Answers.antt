@@ -1,5 +1,4 @@
 -- A row of another part has no body variable.
-use borrow.Author.Rules.{rules}
 use mathlib.Core.Path.{sym}
 use mathlib.Core.List.{[]}
 use Rattle.rows.specs.Scanning.{whole}

@@ -1,8 +1,7 @@
 use mathlib.Core.Path.{sym, ◌∙◌}
 use Prim.Native.Nat.{ℕ, ◌+◌, ◌-◌, ◌/◌}
 use native.Mathlib.Omega.{arith}
-use borrow.Author.Rules.{rules}
-use Rattle.spans.proofs.Spans.{Halved, halved_all, halved_up, halved_down, halved_bound}
+use Rattle.spans.proofs.Spans.{halved_all, halved_up, halved_down, halved_bound}
 use Rattle.spans.proofs.first_from.Goals as goal
 
 -- the row that is looked at

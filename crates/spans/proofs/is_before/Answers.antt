@@ -1,5 +1,4 @@
 -- The first column that differs decides.
-use borrow.Author.Rules.{rules}
 use mathlib.Core.Path.{ap, ◌∙◌}
 use Rattle.spans.specs.Spans.{before}
 use Rattle.spans.proofs.Spans.{sets_decide, rules_decide, parts_decide}

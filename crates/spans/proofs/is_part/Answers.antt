@@ -1,5 +1,4 @@
 -- The test on the columns of the row.
-use borrow.Author.Rules.{rules}
 use Rattle.spans.proofs.is_part.Goals as goal
 
 pub returns : goal.returns

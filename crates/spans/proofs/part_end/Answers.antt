@@ -1,9 +1,6 @@
-use borrow.Author.Tests.{not-true, not-false}
-use Prim.Native.Nat.{◌+◌, ◌-◌, ◌/◌, ◌≤◌}
 use native.Mathlib.Omega.{arith}
-use lib.ListN.{length}
 use Rattle.program.proofs.Words.{row_inside}
-use Rattle.spans.proofs.Spans.{Halved, halved_bound}
+use Rattle.spans.proofs.Spans.{halved_bound}
 use Rattle.spans.proofs.Parts.{part_starts, part_goes_on, part_stops}
 use Rattle.spans.proofs.part_end.Goals as goal
 

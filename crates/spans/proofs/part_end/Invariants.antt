@@ -1,11 +1,7 @@
 -- The loop's invariant: the rows below k stand before the next part.
-use borrow.Author.Tests.{not-true, not-false}
 use Prim.Native.Nat.{◌+◌, ◌-◌, ◌/◌, ◌≤◌}
-use native.Mathlib.Omega.{arith}
 use lib.ListN.{length}
-use Rattle.program.proofs.Words.{row_inside}
-use Rattle.spans.proofs.Spans.{Halved, halved_bound}
-use Rattle.spans.proofs.Parts.{part_starts, part_goes_on, part_stops}
+use Rattle.spans.proofs.Spans.{Halved}
 use Rattle.spans.proofs.part_end.Given as goal
 
 abbrev pub invariant-loop-k : goal.invariant-loop-k

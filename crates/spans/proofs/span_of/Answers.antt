@@ -1,5 +1,4 @@
 -- The rows between the bounds of the part and of the next one are the part.
-use borrow.Author.Rules.{rules}
 use Rattle.spans.proofs.Spans.{bounds_rise, span_is}
 use Rattle.spans.proofs.span_of.Goals as goal
 

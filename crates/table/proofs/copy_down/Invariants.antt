@@ -1,13 +1,9 @@
 -- The loop has copied the first j numbers of record i, which stands behind them and is not reached yet.
-use mathlib.Core.Path.{◌≡◌, refl, ap, ◌∙◌}
-use Prim.Native.Nat.{ℕ, ◌*◌, ◌≤◌, ◌-◌}
-use native.Mathlib.Nat.{mul-le-mul_right}
-use native.Mathlib.Omega.{arith}
+use mathlib.Core.Path.{◌≡◌}
+use Prim.Native.Nat.{◌≤◌, ◌-◌}
 use lib.ListN.{length}
-use lib.Seq.{paste, paste-zero}
-use borrow.Author.Rules.{rules}
-use Rattle.table.specs.Rows.{row, placed}
-use Rattle.table.proofs.Rows.{copy_more, placed_self}
+use lib.Seq.{paste}
+use Rattle.table.specs.Rows.{row}
 use Rattle.table.proofs.copy_down.Given as goal
 
 abbrev pub invariant-loop-j : goal.invariant-loop-j

@@ -1,10 +1,6 @@
 -- Every record before `low` has a lower first number, every record from `high` on has none that is lower.
-use mathlib.Core.Path.{◌≡◌}
-use Prim.Native.Nat.{ℕ, ◌+◌, ◌*◌, ◌≤◌, ◌<◌, ◌-◌, ◌/◌}
-use native.Mathlib.Omega.{arith}
+use Prim.Native.Nat.{ℕ, ◌*◌, ◌≤◌, ◌<◌, ◌-◌}
 use lib.ListN.{get_or}
-use borrow.Author.Rules.{rules}
-use Rattle.table.proofs.Rows.{below, found_at, all_lower, all_higher, nowhere}
 use Rattle.table.proofs.find.Given as goal
 
 abbrev pub invariant-loop-low : goal.invariant-loop-low

@@ -1,16 +1,13 @@
 use mathlib.Core.Path.{◌≡◌, ap, ◌∙◌}
-use mathlib.Core.Bool.{Bool, true, false}
-use mathlib.Core.List.{List}
-use mathlib.Core.Logic.{⊎_elim}
-use Prim.Native.Nat.{ℕ, ◌≤◌, ◌<◌, ◌-◌}
+use mathlib.Core.Bool.{true, false}
+use Prim.Native.Nat.{◌<◌}
 use native.Mathlib.Omega.{arith}
 use lib.ListN.{length}
 use borrow.Author.Rules.{rules}
-use Rattle.lists.specs.Tables.{keep_by}
 use Rattle.lists.proofs.Bind.{append-nil}
 use Rattle.lists.proofs.Tables.{keep_by_nil, keep_by_more}
-use Rattle.table.specs.Rows.{row, rows}
-use Rattle.table.proofs.Rows.{below, Compacted, compacted_none, compacted_kept, compacted_left_out}
+use Rattle.table.specs.Rows.{row}
+use Rattle.table.proofs.Rows.{below, compacted_none, compacted_kept, compacted_left_out}
 use Rattle.table.proofs.keep.Invariants.{kept}
 use Rattle.table.proofs.keep.Goals as goal
 use Rattle.table.proofs.keep.Goals.{then-marks-i, else-marks-i}

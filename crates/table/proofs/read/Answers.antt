@@ -1,6 +1,5 @@
 -- A number of the words is a number of the record that it stands in.
 use mathlib.Core.Path.{sym}
-use borrow.Author.Rules.{rules}
 use Rattle.table.proofs.Rows.{row_at}
 use Rattle.table.proofs.read.Goals as goal
 

@@ -1,12 +1,8 @@
 -- The loop has copied the first j numbers: the words are `paste` of them, and all else is as it was.
-use mathlib.Core.Path.{◌≡◌, refl, ap, ◌∙◌}
-use Prim.Native.Nat.{ℕ, ◌*◌, ◌≤◌, ◌-◌}
-use native.Mathlib.Numerals.{add-one}
-use native.Mathlib.Omega.{arith}
+use mathlib.Core.Path.{◌≡◌}
+use Prim.Native.Nat.{◌≤◌, ◌-◌}
 use lib.ListN.{length}
-use lib.Seq.{paste, paste-zero, paste-suc}
-use borrow.Author.Rules.{rules}
-use Rattle.table.specs.Rows.{placed}
+use lib.Seq.{paste}
 use Rattle.table.proofs.write.Given as goal
 
 abbrev pub invariant-loop-j : goal.invariant-loop-j

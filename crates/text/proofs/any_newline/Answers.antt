@@ -1,4 +1,3 @@
-use borrow.Author.Rules.{rules}
 use borrow.Author.Tests.{eqb-false}
 use mathlib.Core.Path.{refl}
 use Prim.Native.Nat.{ℕ}

@@ -1,8 +1,6 @@
-use Prim.Native.Nat.{◌-◌}
-use lib.ListN.{length}
 use native.Mathlib.Omega.{arith}
 use borrow.Author.Rules.{rules}
-use Rattle.text.proofs.Numbers.{Counting, none_at_end, none_below, none_above, begin, stop_at_end, stop_below, stop_above, more}
+use Rattle.text.proofs.Numbers.{none_at_end, none_below, none_above, begin, stop_at_end, stop_below, stop_above, more}
 use Rattle.text.proofs.counting.Goals as goal
 
 pub returns-then-s-from : goal.returns-then-s-from

@@ -2,9 +2,7 @@
 -- and which goes on at `at`, numbers over 65,535 taken as 65,536.
 use Prim.Native.Nat.{◌-◌}
 use lib.ListN.{length}
-use native.Mathlib.Omega.{arith}
-use borrow.Author.Rules.{rules}
-use Rattle.text.proofs.Numbers.{Counting, none_at_end, none_below, none_above, begin, stop_at_end, stop_below, stop_above, more}
+use Rattle.text.proofs.Numbers.{Counting}
 use Rattle.text.proofs.counting.Given as goal
 
 abbrev pub invariant-loop-at : goal.invariant-loop-at

@@ -1,7 +1,6 @@
-use Prim.Native.Nat.{◌-◌}
 use Rattle.model.specs.Text as Text
 use borrow.Author.Rules.{rules}
-use Rattle.text.proofs.Ends.{Matching, names-laws}
+use Rattle.text.proofs.Ends.{names-laws}
 use Rattle.text.proofs.is_names.Goals as goal
 
 pub loop-i-init : goal.loop-i-init

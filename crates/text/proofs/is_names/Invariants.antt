@@ -1,8 +1,6 @@
 -- `text::is_names` meets its contract. The loop's invariant: the line and the names are the same up to i.
 use Prim.Native.Nat.{◌-◌}
-use Rattle.model.specs.Text as Text
-use borrow.Author.Rules.{rules}
-use Rattle.text.proofs.Ends.{Matching, names-laws}
+use Rattle.text.proofs.Ends.{Matching}
 use Rattle.text.proofs.is_names.Given as goal
 
 abbrev pub invariant-loop-i : goal.invariant-loop-i

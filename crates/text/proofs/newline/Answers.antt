@@ -1,7 +1,6 @@
 use mathlib.Core.Path.{◌≡◌, subst}
-use Prim.Native.Nat.{ℕ, ◌+◌, ◌-◌}
+use Prim.Native.Nat.{◌+◌, ◌-◌}
 use native.Mathlib.Omega.{arith}
-use lib.ListN.{length}
 use borrow.Author.Rules.{rules}
 use Rattle.text.proofs.Ends.{Looking, look_past, look_on, look_found, look_end}
 use Rattle.text.proofs.newline.Goals as goal

@@ -1,10 +1,7 @@
 -- `text::newline` meets its contract. The loop's invariant: no byte 10 stands from `from` up to i.
-use mathlib.Core.Path.{◌≡◌, subst}
-use Prim.Native.Nat.{ℕ, ◌+◌, ◌-◌}
-use native.Mathlib.Omega.{arith}
+use Prim.Native.Nat.{◌-◌}
 use lib.ListN.{length}
-use borrow.Author.Rules.{rules}
-use Rattle.text.proofs.Ends.{Looking, look_past, look_on, look_found, look_end}
+use Rattle.text.proofs.Ends.{Looking}
 use Rattle.text.proofs.newline.Given as goal
 
 abbrev pub invariant-loop-i : goal.invariant-loop-i

@@ -1,7 +1,6 @@
-use Prim.Native.Nat.{◌-◌}
 use mathlib.Core.Path.{sym, ◌∙◌}
 use borrow.Author.Rules.{rules}
-use Rattle.text.proofs.Columns.{Columns, line-laws}
+use Rattle.text.proofs.Columns.{line-laws}
 use Rattle.text.proofs.read_row.Goals as goal
 
 pub loop-k-init : goal.loop-k-init

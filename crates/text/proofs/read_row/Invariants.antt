@@ -1,9 +1,7 @@
 -- `text::read_row` meets its contract. The loop's invariant: k integers are read into v, and the line's columns are those and what
 -- stands at `at`.
 use Prim.Native.Nat.{◌-◌}
-use mathlib.Core.Path.{sym, ◌∙◌}
-use borrow.Author.Rules.{rules}
-use Rattle.text.proofs.Columns.{Columns, line-laws}
+use Rattle.text.proofs.Columns.{Columns}
 use Rattle.text.proofs.read_row.Given as goal
 
 abbrev pub invariant-loop-k : goal.invariant-loop-k

@@ -1,10 +1,8 @@
 -- `quick::begins` meets its contract.
 use mathlib.Core.Path.{sym, ◌∙◌}
-use mathlib.Core.Bool.{false≢true}
 use borrow.Author.Tests.{eq-eqb, ne_eqb}
 use Rattle.rows.specs.Quickly.{scan_at}
 use Rattle.rows.proofs.Standing.{rule_placed, set_placed}
-use borrow.Author.Rules.{rules}
 use Rattle.rows.proofs.quick.begins.Goals as goal
 
 pub returns-then-r-s : goal.returns-then-r-s

@@ -1,7 +1,6 @@
 -- `quick::counted` meets its contract, part by part.
 use native.Mathlib.Omega.{arith}
 use Rattle.rows.proofs.PartRows.{reason_counted, context_counted, body_counted}
-use borrow.Author.Rules.{rules}
 use Rattle.rows.proofs.quick.counted.Goals as goal
 
 pub returns-then-r-eq1 : goal.returns-then-r-eq1

@@ -1,8 +1,6 @@
 -- `quick::fits_rule` meets its contract, part by part.
 use mathlib.Core.Path.{refl}
-use mathlib.Core.Bool.{false≢true}
 use Rattle.rows.proofs.PartRows.{of_reason, of_context, of_step, of_action}
-use borrow.Author.Rules.{rules}
 use Rattle.rows.proofs.quick.fits_rule.Goals as goal
 
 pub returns-then-r-eq1 : goal.returns-then-r-eq1

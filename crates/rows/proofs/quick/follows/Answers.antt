@@ -1,7 +1,6 @@
 -- `quick::follows` meets its contract.
 use Rattle.rows.specs.Quickly.{scan_at}
 use Rattle.rows.proofs.Standing.{same_placed}
-use borrow.Author.Rules.{rules}
 use Rattle.rows.proofs.quick.follows.Goals as goal
 
 pub returns-then-r-s : goal.returns-then-r-s

@@ -4,7 +4,6 @@ use native.Mathlib.Omega.{arith}
 use borrow.Author.Tests.{eq-eqb, ne_eqb}
 use Rattle.model.specs.Load.{give, gives as spec}
 use Rattle.rows.proofs.Ops.{gives_odd, even_is, high_is}
-use borrow.Author.Rules.{rules}
 use Rattle.rows.proofs.quick.gives.Goals as goal
 
 pub returns-then-r-eq21 : goal.returns-then-r-eq21

@@ -3,10 +3,8 @@ use mathlib.Core.Path.{sym, ap, ◌∙◌}
 use mathlib.Core.List.{List, []}
 use Prim.Native.Nat.{ℕ, ◌+◌}
 use mathlib.Core.Bool.{false≢true}
-use borrow.Author.Tests.{not-false}
 use Rattle.rows.specs.Quickly.{scan_at}
 use Rattle.rows.proofs.PartRows.{rule_fits}
-use borrow.Author.Rules.{rules}
 use Rattle.rows.proofs.quick.in_rule.Goals as goal
 
 pub returns-then-not-fits_rule : goal.returns-then-not-fits_rule

@@ -2,10 +2,8 @@
 use mathlib.Core.Path.{refl, sym, ◌∙◌}
 use mathlib.Core.Bool.{false≢true}
 use native.Mathlib.Omega.{arith}
-use borrow.Author.Tests.{not-false}
 use Rattle.rows.specs.Quickly.{scan_at}
 use Rattle.rows.proofs.SetZero.{atom_fits, ceiling_fits}
-use borrow.Author.Rules.{rules}
 use Rattle.rows.proofs.quick.in_set_0.Goals as goal
 
 pub returns-then-not-r : goal.returns-then-not-r

@@ -1,13 +1,11 @@
 -- `quick::is_action` meets its contract: each way is one of the model's.
 use mathlib.Core.Path.{sym, ◌∙◌}
-use mathlib.Core.Bool.{false≢true}
-use borrow.Author.Tests.{eq-eqb, not-false}
+use borrow.Author.Tests.{eq-eqb}
 use Rattle.model.specs.Load.{new_variable}
 use lib.Dec.{eqb}
 use Rattle.lists.proofs.Tests.{or_left}
 use Rattle.lists.proofs.Lists.{or_right}
 use Rattle.rows.proofs.Ops.{is_add, is_remove, is_flag}
-use borrow.Author.Rules.{rules}
 use Rattle.rows.proofs.quick.is_action.Goals as goal
 
 pub returns-then-r-eq0 : goal.returns-then-r-eq0

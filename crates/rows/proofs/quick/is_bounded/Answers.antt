@@ -1,5 +1,4 @@
 -- `quick::is_bounded` meets its contract.
-use mathlib.Core.Bool.{false≢true}
 use borrow.Author.Tests.{leb-true}
 use Rattle.rows.proofs.quick.is_bounded.Goals as goal
 

@@ -1,7 +1,5 @@
 -- `quick::is_ceiling` meets its contract.
-use mathlib.Core.Bool.{false≢true}
 use Rattle.rows.proofs.SetZero.{ceiling_by}
-use borrow.Author.Rules.{rules}
 use Rattle.rows.proofs.quick.is_ceiling.Goals as goal
 
 pub returns : goal.returns

@@ -1,5 +1,4 @@
 -- `quick::is_query` meets its contract: each way is one of the model's.
-use mathlib.Core.Bool.{false≢true}
 use Rattle.rows.proofs.Ops.{is_atom_query, is_plan_query, is_other_query, is_state_query, is_cycle_query}
 use Rattle.rows.proofs.quick.is_query.Goals as goal
 

@@ -1,9 +1,6 @@
 -- `quick::is_step` meets its contract: each way is one of the model's.
 use mathlib.Core.Path.{sym, ◌∙◌}
-use mathlib.Core.Bool.{false≢true}
-use borrow.Author.Tests.{not-false}
 use Rattle.rows.proofs.Ops.{is_delete_step, is_test_step, is_make_step}
-use borrow.Author.Rules.{rules}
 use Rattle.rows.proofs.quick.is_step.Goals as goal
 
 pub returns-then-r-eq35 : goal.returns-then-r-eq35

@@ -2,10 +2,8 @@
 use mathlib.Core.Path.{sym, ◌∙◌}
 use mathlib.Core.List.{[]}
 use mathlib.Core.Bool.{false≢true}
-use borrow.Author.Tests.{not-false}
 use Rattle.rows.proofs.Standing.{low_begun}
 use Rattle.rows.proofs.Passing.{quick_passes, row_in_range}
-use borrow.Author.Rules.{rules}
 use Rattle.rows.proofs.quick.quick_row.Goals as goal
 
 pub returns-then-not-is_bounded : goal.returns-then-not-is_bounded
