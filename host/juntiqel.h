@@ -1,6 +1,6 @@
 /* The proved interpreter of meta-APL for hosts in C and in languages that call C.
 
-   Link target/staticlib/libhost.a, which `rt staticlib host` builds (x86-64 Linux).
+   Link target/staticlib/libhost.a, which `host/build` writes (x86-64 Linux).
 
    Who owns what. The host owns all memory; the library keeps none, allocates none and has no state of its own. Each table is lent
    for one call as a pointer with its length in elements. Pointers are aligned and never NULL, also where the length is 0. Tables of

@@ -1,4 +1,4 @@
-//! Links the proved library. `rt staticlib host` builds it; JUNTIQEL_LIBHOST names another place of the archive.
+//! Links the proved library. `host/build` makes it; JUNTIQEL_LIBHOST names another place of the archive.
 
 use std::env;
 use std::path::{Path, PathBuf};
@@ -14,7 +14,7 @@ fn main() {
     };
     let Ok(archive) = archive.canonicalize() else {
         panic!(
-            "{} is not there: build it with `rt staticlib host`",
+            "{} is not there: make it with `host/build`",
             archive.display()
         );
     };

@@ -1,4 +1,5 @@
 -- One action, kind by kind: what the code leaves of it is what the rules make of it.
+use Rattle.std.specs.Prelude.{if◌then◌else◌}
 use mathlib.Core.Path.{◌≡◌, sym, ap, ◌∙◌}
 use mathlib.Core.Bool.{Bool, true, false}
 use mathlib.Core.Logic.{◌≢◌}
@@ -7,7 +8,6 @@ use Prim.Native.Nat.{ℕ}
 use native.Mathlib.Omega.{arith}
 use lib.ListN.{length}
 use borrow.Author.Tests.{ne_eqb}
-use Rattle.lists.specs.Lists.{if◌then◌else◌}
 use Rattle.model.specs.declared.Row.{Row}
 use Rattle.model.specs.Program.{constant}
 use Rattle.model.specs.Configuration.{Config, operand, with_flag, without_flag, atom_alive, plan_alive, with_flags, change_plan, add_atom}

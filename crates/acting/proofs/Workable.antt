@@ -1,4 +1,5 @@
 -- What an action needs of the words, and that what it leaves can be worked on.
+use Rattle.std.specs.Prelude.{if◌then◌else◌}
 use mathlib.Core.Path.{◌≡◌, refl, sym, ap, ◌∙◌, subst}
 use mathlib.Core.Bool.{Bool, true, false}
 use mathlib.Core.Logic.{◌⊎◌}
@@ -8,7 +9,7 @@ use native.Mathlib.Omega.{arith}
 use lib.Dec.{eqb, ltb}
 use lib.ListN.{length}
 use borrow.Author.Tests.{lt-ltb, le-ltb}
-use Rattle.lists.specs.Lists.{keep, if◌then◌else◌}
+use Rattle.lists.specs.Lists.{keep}
 use Rattle.lists.specs.Tables.{index_of}
 use Rattle.lists.proofs.Lists.{all_map, keep_in}
 use Rattle.model.specs.declared.Row.{Row}

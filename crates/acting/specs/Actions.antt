@@ -1,6 +1,6 @@
 -- What an action asks for, and what it leaves, whatever the log holds already.
-use Rattle.std.specs.Prelude.{◌≡◌, Bool, true, false, ◌⊎◌, List, ℕ, ◌+◌, ◌≤◌, set}
-use Rattle.lists.specs.Lists.{In, if◌then◌else◌}
+use Rattle.std.specs.Prelude.{◌≡◌, Bool, true, false, ◌⊎◌, List, ℕ, ◌+◌, ◌≤◌, set, if◌then◌else◌}
+use Rattle.lists.specs.Lists.{In}
 use Rattle.model.specs.declared.Row.{Row}
 use Rattle.model.specs.Program.{variable?, constant, body}
 use Rattle.model.specs.Configuration.{Plan, Config, last_next, place}

@@ -1,6 +1,6 @@
 -- What each cause of a refused row says of the row r, of the scan s before it and of the scan t as the row finds it.
-use Rattle.std.specs.Prelude.{ℕ, ◌+◌, ◌≤◌, ◌<◌, ◌≡◌, ◌≢◌, Bool, true, false, ◌&&◌, ◌||◌, not, leb, eqb, get_or}
-use Rattle.lists.specs.Lists.{if◌then◌else◌, within}
+use Rattle.std.specs.Prelude.{ℕ, ◌+◌, ◌≤◌, ◌<◌, ◌≡◌, ◌≢◌, Bool, true, false, ◌&&◌, ◌||◌, not, leb, eqb, get_or, if◌then◌else◌}
+use Rattle.lists.specs.Lists.{within}
 use Rattle.model.specs.declared.Row.{Row}
 use Rattle.model.specs.declared.Scan.{Scan}
 use Rattle.model.specs.Program.{any?, constant?, unused?, constant_within, flag?}

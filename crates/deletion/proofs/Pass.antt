@@ -1,4 +1,5 @@
 -- The pass with marks is the pass with ids: after each plan the marks tell what is left once the ids found so far are gone.
+use Rattle.std.specs.Prelude.{if◌then◌else◌}
 use mathlib.Core.Path.{◌≡◌, refl, ap, sym, ◌∙◌}
 use mathlib.Core.Bool.{Bool, true, false, not, ◌||◌, false≢true}
 use mathlib.Core.List.{List, [], ◌∷◌, ◌++◌, map}
@@ -10,7 +11,7 @@ use lib.Dec.{leb, ltb}
 use lib.ListN.{length, get_or, set, length-set, get_or-eq_default}
 use lib.Seq.{get_or-set_same, get_or-set_other}
 use borrow.Author.Tests.{eq-eqb, ne_eqb, ltb-true, ltb-false, leb-false}
-use Rattle.lists.specs.Lists.{In, first, later, member, if◌then◌else◌}
+use Rattle.lists.specs.Lists.{In, first, later, member}
 use Rattle.lists.specs.Tables.{index_of}
 use Rattle.lists.proofs.Lists.{test, in_cons, in_one, in_map, in_cast, out_member, member_in, map_append, map_in, or_cases}
 use Rattle.lists.proofs.Tables.{equal_or_not, get_in, in_get, keys_differ, tabulate_at, tabulate_length}

@@ -1,4 +1,5 @@
 -- What the marks keep, with the target's owner unlinked, is what the model's deletion leaves, and as many went.
+use Rattle.std.specs.Prelude.{if◌then◌else◌}
 use mathlib.Core.Path.{◌≡◌, refl, ap, sym, ◌∙◌, subst}
 use mathlib.Core.Bool.{Bool, true, false, not, ◌&&◌}
 use mathlib.Core.List.{List, map}
@@ -9,7 +10,7 @@ use lib.Dec.{eqb}
 use lib.ListN.{length, drop, length-drop, length-map}
 use lib.Seq.{get_or-drop}
 use borrow.Author.Tests.{eq-eqb, ne_eqb, not-true}
-use Rattle.lists.specs.Lists.{In, keep, if◌then◌else◌, bit, member}
+use Rattle.lists.specs.Lists.{In, keep, bit, member}
 use Rattle.lists.specs.Tables.{keep_by}
 use Rattle.lists.proofs.Lists.{in_map, in_cast, in_member, out_member, member_out, keep_in}
 use Rattle.lists.proofs.Tables.{equal_or_not, tabulate_length, map_same_in, map_keep_by, keep_by_test}

@@ -1,4 +1,5 @@
 -- The plan whose subgoal is the target loses it: where that plan stands, and the plans afterwards.
+use Rattle.std.specs.Prelude.{if◌then◌else◌}
 use mathlib.Core.Path.{◌≡◌, refl, ap, sym, ◌∙◌}
 use mathlib.Core.Bool.{Bool, true, false, not, ◌&&◌}
 use mathlib.Core.List.{List, map}
@@ -7,7 +8,6 @@ use Prim.Native.Nat.{ℕ, ◌-◌, ◌<◌, ◌≤◌}
 use native.Mathlib.Omega.{arith}
 use lib.Dec.{eqb}
 use borrow.Author.Tests.{eq-eqb, ne_eqb}
-use Rattle.lists.specs.Lists.{if◌then◌else◌}
 use Rattle.lists.specs.Tables.{tabulate, index_of}
 use Rattle.lists.proofs.Tables.{equal_or_not, tabulate_same, tabulate_map, index_tabulated, index_tabulated_is, index_missing}
 use Rattle.model.specs.Configuration.{Plan, with_subgoal}

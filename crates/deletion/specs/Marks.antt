@@ -1,6 +1,5 @@
 -- Marks on the places of both tables: true for what is left. Those of the atoms stand from 0 on, those of the plans from 256 on.
-use Rattle.std.specs.Prelude.{◌≡◌, Bool, false, not, ◌&&◌, ◌||◌, List, [], ◌∷◌, map, ℕ, ◌+◌, ◌<◌, leb, ltb, eqb, length, get_or, set}
-use Rattle.lists.specs.Lists.{if◌then◌else◌}
+use Rattle.std.specs.Prelude.{◌≡◌, Bool, false, not, ◌&&◌, ◌||◌, List, [], ◌∷◌, map, ℕ, ◌+◌, ◌<◌, leb, ltb, eqb, length, get_or, set, if◌then◌else◌}
 use Rattle.lists.specs.Tables.{index_of}
 use Rattle.model.specs.Graph.{survives}
 use Rattle.model.specs.Configuration.{Plan, step_removed, with_subgoal}

@@ -1,4 +1,5 @@
 -- Every candidate of a row is of 16 bits.
+use Rattle.std.specs.Prelude.{if◌then◌else◌}
 use mathlib.Core.Path.{◌≡◌, sym, subst}
 use mathlib.Core.Bool.{Bool, true, false}
 use mathlib.Core.List.{List}
@@ -6,7 +7,7 @@ use Prim.Native.Nat.{ℕ, ◌≤◌}
 use native.Mathlib.Omega.{arith}
 use lib.Dec.{eqb}
 use borrow.Author.Tests.{eqb-false, not-true}
-use Rattle.lists.specs.Lists.{In, keep, if◌then◌else◌, within}
+use Rattle.lists.specs.Lists.{In, keep, within}
 use Rattle.lists.proofs.Lists.{in_one, in_map, map_in, keep_in}
 use Rattle.lists.proofs.Bind.{bind_in}
 use Rattle.model.specs.declared.Row.{Row}

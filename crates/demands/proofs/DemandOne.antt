@@ -1,5 +1,6 @@
 -- Demand 1: each number has its cause, those that are tested before the work are given wherever theirs holds, and a refused call leaves
 -- all as it was.
+use Rattle.std.specs.Prelude.{if◌then◌else◌}
 use mathlib.Core.Path.{◌≡◌, refl, sym, ap, ◌∙◌, subst}
 use mathlib.Core.Bool.{Bool, true, false, ◌&&◌, ◌||◌, not, and-eq-true_iff}
 use mathlib.Core.Logic.{◌⊎◌, ◌↔◌, inl, inr, ⊎_elim, ◌≢◌}
@@ -9,7 +10,7 @@ use native.Mathlib.Omega.{arith}
 use lib.Dec.{eqb, leb, ltb}
 use lib.ListN.{length}
 use borrow.Author.Tests.{eqb-true, eqb-false, eq-eqb, leb-true, leb-false, le-leb, ltb-true, ltb-false, not-true, not-false}
-use Rattle.lists.specs.Lists.{In, first, later, if◌then◌else◌, within, every, keep}
+use Rattle.lists.specs.Lists.{In, first, later, within, every, keep}
 use Rattle.lists.proofs.Lists.{test, clash, in_nil, in_cons, keep_in, member_in, in_member, or_cases, map_map}
 use Rattle.lists.proofs.Tests.{and2, every_all}
 use Rattle.lists.proofs.Cuts.{within_in}

@@ -1,4 +1,5 @@
 -- Demand 2: in phases 1 to k a rule fires exactly when it is the first of its set with a match, and each call does what it says.
+use Rattle.std.specs.Prelude.{if◌then◌else◌}
 use mathlib.Core.Path.{◌≡◌, refl, sym, ap, ◌∙◌, subst}
 use mathlib.Core.Bool.{Bool, true, false, not, and-eq-true_iff}
 use mathlib.Core.Logic.{◌⊎◌, inl, inr, ⊎_elim, ◌≢◌}
@@ -8,7 +9,7 @@ use native.Mathlib.Omega.{arith}
 use lib.Dec.{eqb, leb, ltb}
 use lib.ListN.{length}
 use borrow.Author.Tests.{eqb-true, eqb-false, leb-true, leb-false, ltb-false, not-false}
-use Rattle.lists.specs.Lists.{if◌then◌else◌, keep, every}
+use Rattle.lists.specs.Lists.{keep, every}
 use Rattle.lists.proofs.Lists.{test}
 use Rattle.model.specs.declared.Row.{Row}
 use Rattle.model.specs.Program.{sets, is_object, body}

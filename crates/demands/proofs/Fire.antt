@@ -1,4 +1,5 @@
 -- A rule that fires keeps the configuration in shape and tells its events.
+use Rattle.std.specs.Prelude.{if◌then◌else◌}
 use mathlib.Core.Path.{◌≡◌, refl, sym, ap, ◌∙◌, subst}
 use mathlib.Core.Bool.{Bool, true, false, true≢false}
 use mathlib.Core.Logic.{◌⊎◌, inl, inr, ⊎_elim, ◌≢◌}
@@ -8,7 +9,7 @@ use native.Mathlib.Omega.{arith}
 use lib.Dec.{eqb, leb}
 use lib.ListN.{length, set}
 use borrow.Author.Tests.{eqb-false, leb-false}
-use Rattle.lists.specs.Lists.{In, first, keep, first_of, if◌then◌else◌, within, rising_set}
+use Rattle.lists.specs.Lists.{In, first, keep, first_of, within, rising_set}
 use Rattle.lists.proofs.Lists.{in_nil, in_one, in_left, in_right, in_append, in_map, map_in, keep_in}
 use Rattle.lists.proofs.Bind.{append-nil, bind_in}
 use Rattle.lists.proofs.RisingSet.{rising_set_rises, rising_set_few, rising_set_some}

@@ -1,4 +1,5 @@
 -- What a rule that fires does is what `Fired` says; where it is refused, one more instance was needed and there was no room.
+use Rattle.std.specs.Prelude.{if◌then◌else◌}
 use mathlib.Core.Path.{◌≡◌, refl, sym, ap, ◌∙◌, subst}
 use mathlib.Core.Bool.{Bool, true, false, not}
 use mathlib.Core.Logic.{◌⊎◌, inl, inr}
@@ -8,7 +9,7 @@ use native.Mathlib.Omega.{arith}
 use lib.Dec.{eqb, leb}
 use lib.ListN.{length}
 use borrow.Author.Tests.{eqb-true, eqb-false, leb-true, not-false, not-true}
-use Rattle.lists.specs.Lists.{In, if◌then◌else◌}
+use Rattle.lists.specs.Lists.{In}
 use Rattle.lists.proofs.Lists.{member_in, member_out}
 use Rattle.lists.proofs.Bind.{append_assoc}
 use Rattle.model.specs.declared.Row.{Row}

@@ -1,4 +1,5 @@
 -- A flag set or cleared leaves a 16-bit number.
+use Rattle.std.specs.Prelude.{if◌then◌else◌}
 use mathlib.Core.Path.{◌≡◌, refl}
 use mathlib.Core.Bool.{Bool, true, false}
 use mathlib.Core.Logic.{◌≢◌}
@@ -6,7 +7,6 @@ use Prim.Native.Nat.{ℕ, zero, suc, ◌+◌, ◌-◌, ◌/◌, ◌%◌, ◌≤�
 use native.Mathlib.Omega.{arith}
 use lib.Dec.{eqb}
 use borrow.Author.Tests.{eqb-false}
-use Rattle.lists.specs.Lists.{if◌then◌else◌}
 use Rattle.model.specs.Configuration.{weight, has_flag, with_flag, without_flag}
 
 -- a flag that is not set leaves room for its weight, flag by flag

@@ -1,4 +1,5 @@
 -- A call at work keeps the configuration in shape and tells its events: the primitives, and sense, answer and delete.
+use Rattle.std.specs.Prelude.{if◌then◌else◌}
 use mathlib.Core.Path.{◌≡◌, refl, sym, ap, ◌∙◌}
 use mathlib.Core.Bool.{Bool, true, false, and-eq-true_iff}
 use mathlib.Core.Logic.{inl, ⊎_elim, ◌≢◌}
@@ -8,7 +9,7 @@ use native.Mathlib.Omega.{arith}
 use lib.Dec.{eqb, leb}
 use lib.ListN.{length}
 use borrow.Author.Tests.{eqb-true, eqb-false, leb-true, leb-false}
-use Rattle.lists.specs.Lists.{In, first, keep, every, within, if◌then◌else◌}
+use Rattle.lists.specs.Lists.{In, first, keep, every, within}
 use Rattle.lists.proofs.Lists.{keep_in, pairs_either}
 use Rattle.lists.proofs.Tests.{map_pairs}
 use Rattle.model.specs.declared.Row.{Row}

@@ -1,4 +1,5 @@
 -- What each change of a configuration keeps of its shape.
+use Rattle.std.specs.Prelude.{if◌then◌else◌}
 use mathlib.Core.Path.{◌≡◌, refl, ap, ◌∙◌}
 use mathlib.Core.Bool.{Bool, true, false, not}
 use mathlib.Core.Logic.{◌⊎◌, inl, inr, ⊎_elim}
@@ -8,7 +9,7 @@ use native.Mathlib.Omega.{arith}
 use lib.Dec.{eqb}
 use lib.ListN.{length, length-append, length-map}
 use borrow.Author.Tests.{eqb-true}
-use Rattle.lists.specs.Lists.{In, first, keep, if◌then◌else◌, bit, member}
+use Rattle.lists.specs.Lists.{In, first, keep, bit, member}
 use Rattle.lists.proofs.Lists.{in_left, in_right, in_keep, keep_in, all_snoc, all_map, count_keep}
 use Rattle.model.specs.declared.Row.{Row}
 use Rattle.model.specs.declared.Atom.{Atom}

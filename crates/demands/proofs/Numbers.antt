@@ -1,11 +1,12 @@
 -- A sense or a step that is refused has a refusal's number, which is never 0.
+use Rattle.std.specs.Prelude.{if◌then◌else◌}
 use mathlib.Core.Bool.{Bool, true, false, not, ◌||◌}
 use mathlib.Core.List.{List, [], ◌∷◌}
 use Prim.Native.Nat.{ℕ, ◌≤◌}
 use native.Mathlib.Omega.{arith}
 use lib.Dec.{eqb, leb, ltb}
 use lib.ListN.{length}
-use Rattle.lists.specs.Lists.{if◌then◌else◌, keep, every}
+use Rattle.lists.specs.Lists.{keep, every}
 use Rattle.model.specs.declared.Row.{Row}
 use Rattle.model.specs.Program.{sets, is_object}
 use Rattle.model.specs.Configuration.{Plan, Config, most_atoms, most_plans, last_next, operand, remainder, atom_alive, plan_alive}

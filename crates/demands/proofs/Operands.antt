@@ -1,4 +1,5 @@
 -- The number that a body operand stands for is of 16 bits, where its variable has a value.
+use Rattle.std.specs.Prelude.{if◌then◌else◌}
 use mathlib.Core.Path.{◌≡◌, refl, sym, ap, ◌∙◌, subst}
 use mathlib.Core.Bool.{Bool, true, false, not, and-eq-true_iff, true≢false}
 use mathlib.Core.Logic.{⊎_elim}
@@ -8,7 +9,7 @@ use native.Mathlib.Omega.{arith}
 use lib.Dec.{leb}
 use lib.ListN.{length, get_or, drop, replicate}
 use borrow.Author.Tests.{eqb-false, ne_eqb, leb-false, le-leb, not-true}
-use Rattle.lists.specs.Lists.{In, first, later, if◌then◌else◌}
+use Rattle.lists.specs.Lists.{In, first, later}
 use Rattle.lists.proofs.Lists.{test, in_nil, in_cons, or_cases, or_right}
 use Rattle.lists.proofs.Tests.{and2, or_left, false_not}
 use Rattle.model.specs.declared.Row.{Row}

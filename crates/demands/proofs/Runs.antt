@@ -1,4 +1,5 @@
 -- A run is its steps in turn.
+use Rattle.std.specs.Prelude.{if◌then◌else◌}
 use mathlib.Core.Path.{◌≡◌, refl, ap, subst}
 use mathlib.Core.Bool.{Bool, true, false, not, ◌||◌}
 use mathlib.Core.List.{List, [], ◌∷◌}
@@ -6,7 +7,7 @@ use Prim.Native.Nat.{ℕ, zero, suc, ◌+◌, ◌-◌}
 use native.Mathlib.Omega.{arith}
 use lib.Dec.{eqb}
 use borrow.Author.Tests.{eqb-true, eqb-false}
-use Rattle.lists.specs.Lists.{if◌then◌else◌, within}
+use Rattle.lists.specs.Lists.{within}
 use Rattle.model.specs.declared.Row.{Row}
 use Rattle.model.specs.Configuration.{Config}
 use Rattle.model.specs.WellFormed.{given_well}

@@ -1,11 +1,11 @@
 -- What a work tells, accepted or refused: P of its log, or R of its number. `After` is the first half.
+use Rattle.std.specs.Prelude.{if◌then◌else◌}
 use mathlib.Core.Path.{◌≡◌, refl, subst}
 use mathlib.Core.Bool.{Bool, true, false}
 use Prim.Native.Nat.{ℕ, ◌≤◌}
 use native.Mathlib.Omega.{arith}
 use lib.ListN.{length}
 use borrow.Author.Tests.{eqb-true, eqb-false, leb-true}
-use Rattle.lists.specs.Lists.{if◌then◌else◌}
 use Rattle.model.specs.Configuration.{most_atoms, most_plans, last_next}
 use Rattle.model.specs.Log.{Log, Outcome, refused, accepted, and_then, unless}
 use Rattle.model.specs.Calls.{room_for_atom, room_for_plan}

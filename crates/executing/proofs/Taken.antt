@@ -1,4 +1,5 @@
 -- The model's step by its op; the parts of a step; the plan that is taken and its first step.
+use Rattle.std.specs.Prelude.{if◌then◌else◌}
 use mathlib.Core.Path.{◌≡◌, refl, sym, ap, ◌∙◌}
 use mathlib.Core.Bool.{Bool, true, false}
 use mathlib.Core.Logic.{◌≢◌}
@@ -8,7 +9,7 @@ use native.Mathlib.Omega.{arith}
 use lib.Dec.{ltb}
 use lib.ListN.{length}
 use borrow.Author.Tests.{eq-eqb, ne_eqb}
-use Rattle.lists.specs.Lists.{if◌then◌else◌, when, first_of}
+use Rattle.lists.specs.Lists.{when, first_of}
 use Rattle.lists.specs.Tables.{index_of}
 use Rattle.model.specs.declared.Row.{Row}
 use Rattle.model.specs.Configuration.{Plan, Config, last_next, operand, remainder, atom_alive, with_waiting}

@@ -1,6 +1,5 @@
 -- What the exec phase asks of the words, and the parts of a step.
-use Rattle.std.specs.Prelude.{List, ℕ, ◌<◌, ◌≤◌}
-use Rattle.lists.specs.Lists.{if◌then◌else◌}
+use Rattle.std.specs.Prelude.{List, ℕ, ◌<◌, ◌≤◌, if◌then◌else◌}
 use Rattle.model.specs.Configuration.{last_next, scheduled, stepped, without_flag, atom_alive}
 use Rattle.model.specs.Log.{done, executed, Log, emit_subgoal, emit_deletion, quiet, report, Outcome, accepted, and_then}
 use Rattle.model.specs.Calls.{room_for_atom, set_stepped, succeed, fail}

@@ -1,4 +1,5 @@
 -- What a refused row's number says of the tests.
+use Rattle.std.specs.Prelude.{if◌then◌else◌}
 use mathlib.Core.Path.{◌≡◌, refl, sym, subst, ◌∙◌}
 use mathlib.Core.Logic.{◌≢◌}
 use mathlib.Core.Bool.{Bool, true, false, ◌&&◌, not}
@@ -9,7 +10,6 @@ use lib.Dec.{eqb}
 use borrow.Author.Tests.{ne_eqb}
 use Rattle.program_laws.proofs.Tests.{and_left}
 use Rattle.program_laws.proofs.Places.{leaves_of, stays_of, row_leaves, row_faults}
-use Rattle.lists.specs.Lists.{if◌then◌else◌}
 use Rattle.model.specs.declared.Row.{Row}
 use Rattle.model.specs.declared.Scan.{Scan}
 use Rattle.model.specs.Load.{lacking, same_rule, begun, taken, fault, take_row, passed, refused_at, too_many, breaks, valueless}

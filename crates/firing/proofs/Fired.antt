@@ -1,11 +1,12 @@
 -- The choice of the rule, and what the model makes of it.
+use Rattle.std.specs.Prelude.{if◌then◌else◌}
 use mathlib.Core.Path.{◌≡◌, refl, sym, ap, ◌∙◌, subst}
 use mathlib.Core.Bool.{Bool, true, false}
 use mathlib.Core.List.{List, [], ◌∷◌}
 use Prim.Native.Nat.{ℕ, ◌+◌, ◌-◌}
 use native.Mathlib.Omega.{arith}
 use lib.ListN.{length}
-use Rattle.lists.specs.Lists.{In, first, when, if◌then◌else◌}
+use Rattle.lists.specs.Lists.{In, first, when}
 use Rattle.lists.proofs.Counted.{counted_long}
 use Rattle.model.specs.declared.Row.{Row}
 use Rattle.model.specs.Program.{body, is_object}

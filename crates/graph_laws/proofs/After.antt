@@ -1,8 +1,8 @@
 -- What holds after a work, by its parts: in turn, with a test, under a choice.
+use Rattle.std.specs.Prelude.{if◌then◌else◌}
 use mathlib.Core.Path.{◌≡◌, refl, subst}
 use mathlib.Core.Bool.{Bool, true, false}
 use Prim.Native.Nat.{ℕ}
-use Rattle.lists.specs.Lists.{if◌then◌else◌}
 use Rattle.model.specs.Log.{Log, Outcome, refused, accepted, and_then, unless}
 use Rattle.graph_laws.specs.Faithful.{After}
 

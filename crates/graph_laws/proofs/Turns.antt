@@ -1,11 +1,12 @@
 -- Each change of a configuration is an event on its graph, or none; lists of events join.
+use Rattle.std.specs.Prelude.{if◌then◌else◌}
 use mathlib.Core.Path.{◌≡◌, refl, sym, ap, ◌∙◌}
 use mathlib.Core.Bool.{Bool, true, false}
 use mathlib.Core.List.{List, [], ◌∷◌, ◌++◌, map}
 use Prim.Native.Nat.{ℕ, ◌+◌}
 use native.Mathlib.Omega.{arith}
 use lib.Dec.{eqb}
-use Rattle.lists.specs.Lists.{rising_set, if◌then◌else◌, keep}
+use Rattle.lists.specs.Lists.{rising_set, keep}
 use Rattle.lists.proofs.Lists.{map_append, map_map, map_keep}
 use Rattle.model.specs.Graph.{Node, Graph, links, reached, survives, choose, unlinked}
 use Rattle.model.specs.Events.{linked, Event, atom_made, plan_made, subgoal_made, deletion, change, changes, AllFit, all_made, all_gone}

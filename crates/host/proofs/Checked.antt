@@ -1,4 +1,5 @@
 -- A check, test by test.
+use Rattle.std.specs.Prelude.{if◌then◌else◌}
 use mathlib.Core.Path.{◌≡◌, sym, ap, ◌∙◌}
 use mathlib.Core.Bool.{Bool, true, false, ◌&&◌, and-false}
 use mathlib.Core.Logic.{◌≢◌}
@@ -7,7 +8,6 @@ use Prim.Native.Nat.{ℕ}
 use lib.Dec.{eqb}
 use lib.ListN.{length}
 use borrow.Author.Tests.{eq-eqb, ne_eqb}
-use Rattle.lists.specs.Lists.{if◌then◌else◌}
 use Rattle.model.specs.WellFormed.{given_well}
 use Rattle.state.specs.View.{config_of}
 use Rattle.in_place.specs.Given.{given_rows, admitted}

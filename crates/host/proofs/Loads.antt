@@ -1,4 +1,5 @@
 -- What a load leaves in the lent slices, accepted or refused.
+use Rattle.std.specs.Prelude.{if◌then◌else◌}
 use mathlib.Core.Path.{◌≡◌, refl, sym, ap, ◌∙◌}
 use mathlib.Core.Bool.{Bool, true, false, ◌&&◌}
 use mathlib.Core.Logic.{◌≢◌}
@@ -7,7 +8,6 @@ use Prim.Native.Nat.{ℕ, ◌+◌, ◌*◌}
 use native.Mathlib.Omega.{arith}
 use lib.ListN.{length}
 use borrow.Author.Tests.{eq-eqb, ne_eqb}
-use Rattle.lists.specs.Lists.{if◌then◌else◌}
 use Rattle.lists.proofs.Tests.{and2}
 use Rattle.model.specs.Configuration.{Config}
 use Rattle.model.specs.Load as Load

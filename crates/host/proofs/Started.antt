@@ -1,4 +1,5 @@
 -- What an accepted load leaves may be handed in to the trusted calls.
+use Rattle.std.specs.Prelude.{if◌then◌else◌}
 use mathlib.Core.Path.{◌≡◌, refl, sym, ap, ◌∙◌, subst}
 use mathlib.Core.Bool.{Bool, true, and-eq-true_iff}
 use mathlib.Core.Logic.{◌≢◌}
@@ -7,7 +8,6 @@ use Prim.Native.Nat.{ℕ, ◌+◌, ◌*◌, ◌%◌}
 use native.Mathlib.Omega.{arith}
 use lib.Dec.{eqb}
 use lib.ListN.{length, take, get_or}
-use Rattle.lists.specs.Lists.{if◌then◌else◌}
 use Rattle.model.specs.Configuration.{Config, fresh}
 use Rattle.model.specs.WellFormed.{given_well}
 use Rattle.demands.proofs.Calls.{keeps_well_formed}

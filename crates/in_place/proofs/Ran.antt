@@ -1,4 +1,5 @@
 -- run, test by test.
+use Rattle.std.specs.Prelude.{if◌then◌else◌}
 use mathlib.Core.Path.{◌≡◌, sym, ap, ◌∙◌}
 use mathlib.Core.Bool.{Bool, true, false, not, ◌||◌, ◌&&◌}
 use mathlib.Core.Logic.{◌≢◌}
@@ -6,7 +7,7 @@ use mathlib.Core.List.{List}
 use Prim.Native.Nat.{ℕ, ◌<◌, ◌≤◌}
 use lib.Dec.{eqb, leb}
 use borrow.Author.Tests.{eq-eqb, ne_eqb, le-leb, lt-leb}
-use Rattle.lists.specs.Lists.{if◌then◌else◌, within}
+use Rattle.lists.specs.Lists.{within}
 use Rattle.lists.proofs.Lists.{or_right}
 use Rattle.lists.proofs.Tests.{and2}
 use Rattle.model.specs.declared.Row.{Row}

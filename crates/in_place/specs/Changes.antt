@@ -1,6 +1,5 @@
 -- What a call leaves, in the paper's terms: its answer, with the configuration that the words and the scalars are afterwards.
-use Rattle.std.specs.Prelude.{List, ℕ, eqb}
-use Rattle.lists.specs.Lists.{if◌then◌else◌}
+use Rattle.std.specs.Prelude.{List, ℕ, eqb, if◌then◌else◌}
 use Rattle.model.specs.Log.{Answer, called}
 use Rattle.model.specs.Run.{RunOutcome, run_refused, ran}
 use Rattle.state.specs.declared.Scalars.{Scalars}

@@ -1,6 +1,6 @@
 -- What a host may hand in, as the rules see it: any words for a program, any words for the rows of a sense.
-use Rattle.std.specs.Prelude.{◌≡◌, Bool, true, not, List, [], ◌∷◌, ◌++◌, ℕ, ◌/◌, ◌%◌, eqb, length}
-use Rattle.lists.specs.Lists.{if◌then◌else◌, when}
+use Rattle.std.specs.Prelude.{◌≡◌, Bool, true, not, List, [], ◌∷◌, ◌++◌, ℕ, ◌/◌, ◌%◌, eqb, length, if◌then◌else◌}
+use Rattle.lists.specs.Lists.{when}
 use Rattle.model.specs.declared.Row.{Row}
 use Rattle.model.specs.Configuration.{Config}
 use Rattle.model.specs.WellFormed.{given_well}

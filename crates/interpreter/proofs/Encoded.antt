@@ -1,4 +1,5 @@
 -- Every list of calls is one that words stand for.
+use Rattle.std.specs.Prelude.{if◌then◌else◌}
 use mathlib.Core.Path.{◌≡◌, refl, sym, ap, ap₂, ◌∙◌}
 use mathlib.Core.Bool.{true}
 use mathlib.Core.Logic.{◌≢◌}
@@ -10,7 +11,7 @@ use lib.Dec.{eqb}
 use lib.ListN.{length, drop, length-append}
 use lib.Seq.{drop-drop, take-append_seam, drop-append_seam, drop-append-add}
 use borrow.Author.Tests.{eq-eqb, le-leb}
-use Rattle.lists.specs.Lists.{if◌then◌else◌, within, bind}
+use Rattle.lists.specs.Lists.{within, bind}
 use Rattle.lists.proofs.Bind.{append-nil}
 use Rattle.lists.proofs.Tests.{and2}
 use Rattle.table.specs.Rows.{row}

@@ -1,4 +1,5 @@
 -- After a load: the words lent hold the program that the text loads to, and the configuration is its fresh one.
+use Rattle.std.specs.Prelude.{if◌then◌else◌}
 use mathlib.Core.Path.{◌≡◌, refl, sym, ap, ◌∙◌}
 use mathlib.Core.Bool.{Bool, and-eq-true_iff}
 use mathlib.Core.Logic.{◌≢◌}
@@ -8,7 +9,6 @@ use native.Mathlib.Omega.{arith}
 use lib.Dec.{eqb}
 use lib.ListN.{length, take, drop, length-take}
 use lib.Seq.{take_at}
-use Rattle.lists.specs.Lists.{if◌then◌else◌}
 use Rattle.model.specs.Configuration.{empty, fresh}
 use Rattle.model.specs.Configuration as Configuration
 use Rattle.model.specs.Load.{Loaded, loaded, refused, load}

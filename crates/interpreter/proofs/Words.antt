@@ -1,4 +1,5 @@
 -- The first call that words are, and the list of their calls.
+use Rattle.std.specs.Prelude.{if◌then◌else◌}
 use mathlib.Core.Path.{◌≡◌, refl, sym, ap, ◌∙◌, subst}
 use mathlib.Core.Bool.{Bool, true, false, ◌&&◌}
 use mathlib.Core.Logic.{◌≢◌}
@@ -8,7 +9,7 @@ use native.Mathlib.Omega.{arith}
 use lib.Dec.{eqb, leb}
 use lib.ListN.{length, take, drop, length-drop}
 use borrow.Author.Tests.{eq-eqb, ne_eqb, eqb-false, leb-true, lt-leb}
-use Rattle.lists.specs.Lists.{if◌then◌else◌, within}
+use Rattle.lists.specs.Lists.{within}
 use Rattle.model.specs.declared.Row.{Row}
 use Rattle.model.specs.Claims.{Call, to_sense, to_step, to_answer, to_delete}
 use Rattle.in_place.specs.Given.{given_rows, readings_of}

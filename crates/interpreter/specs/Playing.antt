@@ -1,6 +1,6 @@
 -- A list of calls as words, and what a play of it comes to.
-use Rattle.std.specs.Prelude.{◌≡◌, ◌&&◌, List, [], ◌∷◌, ℕ, zero, suc, ◌+◌, ◌-◌, eqb, leb, length, take, drop, get_or}
-use Rattle.lists.specs.Lists.{if◌then◌else◌, within}
+use Rattle.std.specs.Prelude.{◌≡◌, ◌&&◌, List, [], ◌∷◌, ℕ, zero, suc, ◌+◌, ◌-◌, eqb, leb, length, take, drop, get_or, if◌then◌else◌}
+use Rattle.lists.specs.Lists.{within}
 use Rattle.model.specs.declared.Row.{Row}
 use Rattle.model.specs.Program.{initial_atoms}
 use Rattle.model.specs.Configuration.{empty, fresh}

@@ -2,8 +2,7 @@
 // back the very configuration that it was given.
 #![tactic(auto)]
 
-ghost use Rattle.std.specs.Prelude.{◌≡◌, ◌≢◌, ◌+◌, ◌-◌, ◌<◌, ◌≤◌, eqb, length};
-ghost use Rattle.lists.specs.Lists.{if◌then◌else◌};
+ghost use Rattle.std.specs.Prelude.{◌≡◌, ◌≢◌, ◌+◌, ◌-◌, ◌<◌, ◌≤◌, eqb, length, if◌then◌else◌};
 ghost use Rattle.model.specs.Claims.{to_sense, to_step, to_answer, to_delete, reply};
 ghost use Rattle.model.specs.Run.{run as run-of-steps};
 ghost use Rattle.in_place.specs.Given.{given_rows, admitted, readings_of};

@@ -1,4 +1,5 @@
 -- Tests of lists by their places: what a loop that counts up has shown, and what one place that fails refutes.
+use Rattle.std.specs.Prelude.{if◌then◌else◌}
 use mathlib.Core.Path.{◌≡◌, refl, sym, ap, ◌∙◌}
 use mathlib.Core.Bool.{Bool, true, false, ◌&&◌, and-eq-true_iff}
 use mathlib.Core.Logic.{⊎_elim}
@@ -8,7 +9,7 @@ use native.Mathlib.Omega.{arith}
 use lib.Dec.{leb, ltb, eqb}
 use lib.ListN.{length, get_or, drop, length-map, get_or-map}
 use borrow.Author.Tests.{eqb-true, eq-eqb, leb-true, le-leb, le-ltb}
-use Rattle.lists.specs.Lists.{if◌then◌else◌, In, first, later, first_of, Pairs, every, some, in_pairs, rises, count_up, highest}
+use Rattle.lists.specs.Lists.{In, first, later, first_of, Pairs, every, some, in_pairs, rises, count_up, highest}
 use Rattle.lists.specs.Tables.{tabulate, index_of, trim_cons, trimmed}
 use Rattle.lists.proofs.Lists.{test, clash, in_nil, in_one, in_cast, in_map, in_member, all_snoc, pairs_snoc}
 use Rattle.lists.proofs.Tests.{and2, every_all, tests_pairs, rises_pairs, pairs_rises, length_count_up}

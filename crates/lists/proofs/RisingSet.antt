@@ -1,4 +1,5 @@
 -- A rising set has the list's members, each once, in rising order.
+use Rattle.std.specs.Prelude.{if◌then◌else◌}
 use mathlib.Core.Path.{◌≡◌, refl, ◌∙◌}
 use mathlib.Core.Bool.{Bool, true, false}
 use mathlib.Core.Logic.{◌⊎◌, inl, inr, ⊎_elim}
@@ -8,7 +9,7 @@ use native.Mathlib.Omega.{arith}
 use lib.Dec.{ltb, eqb}
 use lib.ListN.{length}
 use borrow.Author.Tests.{ltb-true, ltb-false, eqb-true, eqb-false}
-use Rattle.lists.specs.Lists.{In, first, later, Pairs, if◌then◌else◌, insert, rising_set}
+use Rattle.lists.specs.Lists.{In, first, later, Pairs, insert, rising_set}
 use Rattle.lists.proofs.Lists.{in_nil, in_cons, in_one}
 
 abbrev Rising : List ℕ → Type 0

@@ -1,4 +1,5 @@
 -- Laws of answers in lists: answers by number, the first of them, answers that are all one; the greatest number; zeros at the end.
+use Rattle.std.specs.Prelude.{if◌then◌else◌}
 use mathlib.Core.Path.{◌≡◌, refl, sym, ap, ◌∙◌, subst}
 use mathlib.Core.Bool.{Bool, true, false}
 use mathlib.Core.Logic.{⊎_elim, ◌≢◌}
@@ -9,7 +10,7 @@ use lib.Dec.{ltb, leb, eqb}
 use lib.ListN.{length, get_or, take, drop, drop_of_length-le}
 use lib.Seq.{drop-cons}
 use borrow.Author.Tests.{ltb-true, ltb-false, leb-true, leb-false, eqb-true, eqb-false}
-use Rattle.lists.specs.Lists.{if◌then◌else◌, In, first, later, put, keep, when, first_of, is_empty, bind, count_up, highest}
+use Rattle.lists.specs.Lists.{In, first, later, put, keep, when, first_of, is_empty, bind, count_up, highest}
 use Rattle.lists.specs.Tables.{tabulate, trim_cons, trimmed}
 use Rattle.lists.proofs.Lists.{test, clash, in_nil, in_cons, map_append}
 use Rattle.lists.proofs.Bind.{append-nil, append_assoc, keep_append, bind_append}

@@ -1,4 +1,5 @@
 -- Laws of lists given by their places, of marks, and of where a number stands.
+use Rattle.std.specs.Prelude.{if◌then◌else◌}
 use mathlib.Core.Path.{◌≡◌, refl, ap, sym, ◌∙◌}
 use mathlib.Core.Bool.{Bool, true, false}
 use mathlib.Core.List.{List, [], ◌∷◌, ◌++◌, map}
@@ -10,7 +11,7 @@ use lib.Dec.{eqb, ltb}
 use lib.ListN.{length, get_or, drop, set, length-set, length-append, get_or-append}
 use lib.Seq.{get_or-set_same, get_or-set_other, ext_get_or, get_or_at, drop-cons, drop-length}
 use borrow.Author.Tests.{eq-eqb, ne_eqb, eqb-true, eqb-false, ltb-true, ltb-false}
-use Rattle.lists.specs.Lists.{if◌then◌else◌, put, keep, In, first, later, Pairs, member}
+use Rattle.lists.specs.Lists.{put, keep, In, first, later, Pairs, member}
 use Rattle.lists.specs.Tables.{tabulate, keep_by, index_of, trim_cons, trimmed}
 use Rattle.lists.proofs.Lists.{test, map_append, in_cast, out_member, in_member}
 use Rattle.lists.proofs.Bind.{put_append}

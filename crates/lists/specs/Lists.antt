@@ -1,11 +1,5 @@
 -- Tests, choices and lists, as every definition of the model uses them.
-use Rattle.std.specs.Prelude.{◌≡◌, Bool, true, false, ◌&&◌, ◌||◌, List, [], ◌∷◌, ◌++◌, ℕ, zero, suc, eqb, leb, ltb}
-
-infix 5 if◌then◌else◌
--- both branches are computed: a recursive call stands in neither
-abbrev pub if◌then◌else◌ : {A : Type 0} → Bool → A → A → A
-if true then x else y = x
-if false then x else y = y
+use Rattle.std.specs.Prelude.{◌≡◌, Bool, true, false, ◌&&◌, ◌||◌, List, [], ◌∷◌, ◌++◌, ℕ, zero, suc, eqb, leb, ltb, if◌then◌else◌}
 
 -- 1 for true
 abbrev pub bit : Bool → ℕ

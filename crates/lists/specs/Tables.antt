@@ -1,6 +1,6 @@
 -- Lists given by their places, elements kept by marks, and where a number stands: what tables of words show.
-use Rattle.std.specs.Prelude.{Bool, List, [], ◌∷◌, ◌++◌, ℕ, zero, suc, eqb}
-use Rattle.lists.specs.Lists.{if◌then◌else◌, put}
+use Rattle.std.specs.Prelude.{Bool, List, [], ◌∷◌, ◌++◌, ℕ, zero, suc, eqb, if◌then◌else◌}
+use Rattle.lists.specs.Lists.{put}
 
 module _ {A : Type 0} where
   -- f 0, f 1, .., f (n - 1)

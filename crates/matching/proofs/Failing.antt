@@ -1,5 +1,6 @@
 -- On what a failure hangs: a row that fails with each answer hangs on its own operands and on what its answers' failures hang on; a row that
 -- changes nothing of what one answer's failure hangs on hangs on just that.
+use Rattle.std.specs.Prelude.{if◌then◌else◌}
 use mathlib.Core.Path.{◌≡◌, refl, sym, ap, ◌∙◌, subst}
 use mathlib.Core.Bool.{Bool, true, false}
 use mathlib.Core.Logic.{◌⊎◌, inl, inr, ⊎_elim, ◌≢◌}
@@ -10,7 +11,7 @@ use lib.Dec.{eqb}
 use lib.ListN.{length, get_or, set, length-set}
 use lib.Seq.{get_or-set_other}
 use borrow.Author.Tests.{eqb-true, eqb-false, ne_eqb, leb-false}
-use Rattle.lists.specs.Lists.{if◌then◌else◌, when, is_empty, bind, count_up}
+use Rattle.lists.specs.Lists.{when, is_empty, bind, count_up}
 use Rattle.lists.proofs.Lists.{test, clash}
 use Rattle.lists.proofs.Bind.{append-nil, append_assoc}
 use Rattle.model.specs.declared.Row.{Row}

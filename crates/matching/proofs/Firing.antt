@@ -1,4 +1,5 @@
 -- One rule by the bounds of its parts: where it stands, what its matches are, and what fires first of it and the rules behind it.
+use Rattle.std.specs.Prelude.{if◌then◌else◌}
 use mathlib.Core.Path.{◌≡◌, refl, sym, ap, ap₂, ◌∙◌}
 use mathlib.Core.Bool.{Bool, true, false, not, ◌&&◌, and-eq-true_iff}
 use mathlib.Core.Logic.{◌≢◌}
@@ -8,7 +9,7 @@ use native.Mathlib.Omega.{arith}
 use lib.Dec.{eqb, ltb}
 use lib.ListN.{length, length-append}
 use borrow.Author.Tests.{eqb-true, eq-eqb, ne_eqb, ltb-true, ltb-false, le-ltb}
-use Rattle.lists.specs.Lists.{if◌then◌else◌, In, keep, when, first_of, is_empty, bind}
+use Rattle.lists.specs.Lists.{In, keep, when, first_of, is_empty, bind}
 use Rattle.lists.proofs.Lists.{clash, keep_in, count_keep}
 use Rattle.lists.proofs.Bind.{keep_append}
 use Rattle.lists.proofs.Splits.{keep_none}

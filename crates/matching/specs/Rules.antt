@@ -1,6 +1,6 @@
 -- Where a rule's rows stand, which of its matches count, and what the choice says in the model's terms.
-use Rattle.std.specs.Prelude.{◌≡◌, Bool, ◌&&◌, List, [], ◌∷◌, ℕ, ◌-◌, ◌/◌, ◌≤◌, eqb, length, take, get_or}
-use Rattle.lists.specs.Lists.{if◌then◌else◌, keep, when, first_of}
+use Rattle.std.specs.Prelude.{◌≡◌, Bool, ◌&&◌, List, [], ◌∷◌, ℕ, ◌-◌, ◌/◌, ◌≤◌, eqb, length, take, get_or, if◌then◌else◌}
+use Rattle.lists.specs.Lists.{keep, when, first_of}
 use Rattle.model.specs.declared.Row.{Row}
 use Rattle.model.specs.Program.{is_object, body}
 use Rattle.model.specs.Matching.{Found, matches, counts, Firing}

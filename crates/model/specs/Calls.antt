@@ -1,6 +1,6 @@
 -- "Calls": what each makes of a program and a configuration.
-use Rattle.std.specs.Prelude.{ℕ, ◌+◌, Bool, true, false, ◌&&◌, ◌||◌, not, List, [], ◌∷◌, map, leb, ltb, eqb, length, set}
-use Rattle.lists.specs.Lists.{if◌then◌else◌, within, keep, every, some}
+use Rattle.std.specs.Prelude.{ℕ, ◌+◌, Bool, true, false, ◌&&◌, ◌||◌, not, List, [], ◌∷◌, map, leb, ltb, eqb, length, set, if◌then◌else◌}
+use Rattle.lists.specs.Lists.{within, keep, every, some}
 use Rattle.model.specs.Program.{Row, variable?, constant, sets, is_object, body}
 use Rattle.model.specs.Configuration.{Atom, Plan, Config, most_atoms, most_plans, last_next, place, operand, scheduled, stepped, failed, has_flag, with_flag, without_flag, remainder, atom_alive, plan_alive, equal_to, with_flags, step_removed, with_phase, with_waiting, change_plan}
 use Rattle.model.specs.WellFormed.{given_well}

@@ -1,6 +1,6 @@
 -- "The configuration": atom and plan instances, each list in rising id (DECISIONS 31), and the scalars.
-use Rattle.std.specs.Prelude.{ℕ, suc, ◌+◌, ◌-◌, ◌/◌, ◌%◌, ◌^◌, ◌≡◌, Bool, ◌&&◌, List, [], ◌∷◌, ◌++◌, map, eqb, length, get_or, drop, replicate}
-use Rattle.lists.specs.Lists.{if◌then◌else◌, member}
+use Rattle.std.specs.Prelude.{ℕ, suc, ◌+◌, ◌-◌, ◌/◌, ◌%◌, ◌^◌, ◌≡◌, Bool, ◌&&◌, List, [], ◌∷◌, ◌++◌, map, eqb, length, get_or, drop, replicate, if◌then◌else◌}
+use Rattle.lists.specs.Lists.{member}
 use Rattle.model.specs.Program.{Row, constant?, constant, body, initial_atoms}
 pub use Rattle.model.specs.declared.Atom.{Atom}
 

@@ -1,7 +1,7 @@
 -- Load: what a text loads to, line by line. `Scan` says where the load stands after the rows so far.
-use Rattle.std.specs.Prelude.{ℕ, ◌+◌, Bool, false, ◌&&◌, ◌||◌, not, List, [], ◌∷◌, ◌++◌, leb, ltb, eqb, get_or, set, replicate}
+use Rattle.std.specs.Prelude.{ℕ, ◌+◌, Bool, false, ◌&&◌, ◌||◌, not, List, [], ◌∷◌, ◌++◌, leb, ltb, eqb, get_or, set, replicate, if◌then◌else◌}
 use Rattle.std.proofs.Math.Option.{Option, none, some}
-use Rattle.lists.specs.Lists.{if◌then◌else◌, within, bit, same}
+use Rattle.lists.specs.Lists.{within, bit, same}
 pub use Rattle.model.specs.declared.Scan.{Scan}
 use Rattle.model.specs.Program.{Row, any?, variable?, constant?, unused?, constant_within, flag?}
 use Rattle.model.specs.Text.{Lines, end, unended, line, lines, read_row, names}

@@ -1,6 +1,6 @@
 -- "Matching": every complete match of a rule's rows, in the paper's order. An answer that may be missing is a list.
-use Rattle.std.specs.Prelude.{ℕ, ◌%◌, Bool, true, ◌&&◌, ◌||◌, not, List, [], ◌∷◌, ◌++◌, map, eqb, set}
-use Rattle.lists.specs.Lists.{if◌then◌else◌, within, keep, when, first_of, is_empty, some, bind, rising_set, same}
+use Rattle.std.specs.Prelude.{ℕ, ◌%◌, Bool, true, ◌&&◌, ◌||◌, not, List, [], ◌∷◌, ◌++◌, map, eqb, set, if◌then◌else◌}
+use Rattle.lists.specs.Lists.{within, keep, when, first_of, is_empty, some, bind, rising_set, same}
 use Rattle.model.specs.Program.{Row, any?, variable?, constant?, constant, reasons, context, body, rules_of, is_object}
 use Rattle.model.specs.Configuration.{Atom, Plan, Config, no_value, no_values, place, value_of, has_flag}
 

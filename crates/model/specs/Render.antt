@@ -1,6 +1,6 @@
 -- The text of a program, and the test that rows are a program.
-use Rattle.std.specs.Prelude.{ℕ, zero, suc, ◌+◌, ◌-◌, ◌/◌, ◌%◌, Bool, true, false, ◌&&◌, List, [], ◌∷◌, ◌++◌, leb, ltb}
-use Rattle.lists.specs.Lists.{if◌then◌else◌, every}
+use Rattle.std.specs.Prelude.{ℕ, zero, suc, ◌+◌, ◌-◌, ◌/◌, ◌%◌, Bool, true, false, ◌&&◌, List, [], ◌∷◌, ◌++◌, leb, ltb, if◌then◌else◌}
+use Rattle.lists.specs.Lists.{every}
 use Rattle.model.specs.Program.{Row}
 use Rattle.model.specs.Text.{names}
 use Rattle.model.specs.Load.{Scan, Loaded, loaded, refused, finish, take_row, go_on, at_first}

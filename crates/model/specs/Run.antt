@@ -1,6 +1,6 @@
 -- "Control program and run": run, the listing, and what keyrun prints.
-use Rattle.std.specs.Prelude.{ℕ, zero, suc, ◌+◌, ◌-◌, ◌||◌, not, List, [], ◌∷◌, ◌++◌, map, eqb, ltb, get_or}
-use Rattle.lists.specs.Lists.{if◌then◌else◌, within}
+use Rattle.std.specs.Prelude.{ℕ, zero, suc, ◌+◌, ◌-◌, ◌||◌, not, List, [], ◌∷◌, ◌++◌, map, eqb, ltb, get_or, if◌then◌else◌}
+use Rattle.lists.specs.Lists.{within}
 use Rattle.model.specs.Program.{Row}
 use Rattle.model.specs.Text.{bytes}
 use Rattle.model.specs.Load.{Loaded, loaded, load}

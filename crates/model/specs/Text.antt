@@ -1,10 +1,10 @@
 -- "Program text": its lines, and the eight integers of a line.
-use Rattle.std.specs.Prelude.{ℕ, zero, suc, ◌+◌, ◌-◌, ◌*◌, Bool, true, false, ◌&&◌, List, [], ◌∷◌, leb, eqb, get_or}
+use Rattle.std.specs.Prelude.{ℕ, zero, suc, ◌+◌, ◌-◌, ◌*◌, Bool, true, false, ◌&&◌, List, [], ◌∷◌, leb, eqb, get_or, if◌then◌else◌}
 use Rattle.std.proofs.Math.Option.{Option, none, some}
 use Prim.Native.String.{String}
 use Prim.Native.String as S
 use Prim.Native.Char.{code}
-use Rattle.lists.specs.Lists.{if◌then◌else◌, within}
+use Rattle.lists.specs.Lists.{within}
 use Rattle.model.specs.Program.{Row}
 
 -- the bytes of a string of this page

@@ -1,4 +1,5 @@
 -- What a load leaves to its callers: its number tells whether the text was accepted, and the words hold the rows that it loads to.
+use Rattle.std.specs.Prelude.{if◌then◌else◌}
 use mathlib.Core.Path.{◌≡◌, refl, ap, ap₂, ◌∙◌}
 use mathlib.Core.Bool.{Bool, true, false, not, ◌&&◌}
 use mathlib.Core.Logic.{◌≢◌}
@@ -11,7 +12,7 @@ use lib.ListN.{length, take, drop}
 use lib.Seq.{take_at, drop-append-add}
 use lib.Dec.{eqb}
 use borrow.Author.Tests.{eq-eqb, eqb-false}
-use Rattle.lists.specs.Lists.{if◌then◌else◌, same}
+use Rattle.lists.specs.Lists.{same}
 use Rattle.lists.proofs.Cuts.{if_either}
 use Rattle.table.specs.Rows.{row}
 use Rattle.model.specs.declared.Row.{Row}

@@ -1,4 +1,5 @@
 -- The load of a text, line by line: what each way through the code's loop says of the model's `load`.
+use Rattle.std.specs.Prelude.{if◌then◌else◌}
 use mathlib.Core.Path.{◌≡◌, refl, ap, sym, subst, ◌∙◌}
 use mathlib.Core.Bool.{Bool, true, false, not}
 use mathlib.Core.Logic.{◌≢◌}
@@ -9,7 +10,7 @@ use native.Mathlib.Omega.{arith}
 use lib.ListN.{length, drop, take, length-append}
 use lib.Dec.{eqb}
 use borrow.Author.Tests.{eqb-true, eqb-false, ne_eqb, not-true, not-false}
-use Rattle.lists.specs.Lists.{same, if◌then◌else◌}
+use Rattle.lists.specs.Lists.{same}
 use Rattle.table.specs.Rows.{placed}
 use Rattle.table.proofs.Rows.{placed_long}
 use Rattle.model.specs.declared.Row.{Row}

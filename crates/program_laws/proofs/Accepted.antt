@@ -1,4 +1,5 @@
 -- A row that a load takes: its tests, as facts.
+use Rattle.std.specs.Prelude.{if◌then◌else◌}
 use mathlib.Core.Path.{◌≡◌, refl, sym, ◌∙◌}
 use mathlib.Core.Bool.{Bool, true, false, not, ◌&&◌, ◌||◌, or-false, true≢false}
 use mathlib.Core.Logic.{⊎_elim, ◌≢◌}
@@ -7,7 +8,6 @@ use native.Mathlib.Omega.{arith}
 use lib.Dec.{eqb, leb}
 use lib.ListN.{get_or}
 use borrow.Author.Tests.{eqb-true, eqb-false, eq-eqb, ne_eqb, leb-true, leb-false, le-leb, ltb-false, not-true, not-false}
-use Rattle.lists.specs.Lists.{if◌then◌else◌}
 use Rattle.lists.proofs.Lists.{test, clash, or_cases}
 use Rattle.model.specs.declared.Row.{Row}
 use Rattle.model.specs.declared.Scan.{Scan}

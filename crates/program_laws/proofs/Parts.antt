@@ -1,4 +1,5 @@
 -- The parts of a rule and the variables with values, when one row more is taken.
+use Rattle.std.specs.Prelude.{if◌then◌else◌}
 use mathlib.Core.Path.{◌≡◌, refl, ◌∙◌}
 use mathlib.Core.Bool.{Bool, true, false, not, ◌&&◌, and_assoc}
 use mathlib.Core.Logic.{◌⊎◌, inl, inr, ⊎_elim, ◌≢◌}
@@ -9,7 +10,7 @@ use lib.Dec.{eqb}
 use lib.ListN.{length, length-append, get_or, set}
 use lib.Seq.{get_or-set_other}
 use borrow.Author.Tests.{eqb-true, eqb-false, eq-eqb, ne_eqb}
-use Rattle.lists.specs.Lists.{In, when, bit, is_empty, if◌then◌else◌}
+use Rattle.lists.specs.Lists.{In, when, bit, is_empty}
 use Rattle.lists.proofs.Lists.{test, clash}
 use Rattle.lists.proofs.Splits.{keep_snoc, keep_none}
 use Rattle.model.specs.declared.Row.{Row}

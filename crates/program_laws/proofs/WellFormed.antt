@@ -1,4 +1,5 @@
 -- A list of rows is well formed exactly when some text loads to it.
+use Rattle.std.specs.Prelude.{if◌then◌else◌}
 use Prim.Native.Nat.{ℕ, zero, suc, ◌+◌, ◌-◌, ◌≤◌}
 use mathlib.Core.Path.{◌≡◌, refl, ap, ◌∙◌, sym, subst}
 use mathlib.Core.Bool.{Bool, true, false, ◌&&◌}
@@ -8,7 +9,7 @@ use native.Mathlib.Omega.{arith}
 use lib.ListN.{get_or}
 use lib.Dec.{leb, eqb}
 use borrow.Author.Tests.{leb-true}
-use Rattle.lists.specs.Lists.{within, if◌then◌else◌, every, same}
+use Rattle.lists.specs.Lists.{within, every, same}
 use Rattle.model.specs.declared.Row.{Row}
 use Rattle.model.specs.declared.Scan.{Scan}
 use Rattle.model.specs.Text.{counting, positive, negative, read_int, Read, number, unreadable, columns, column, last_column, after, row_of, read_row, in_columns, lines, Lines, line, end, unended, names}

@@ -1,4 +1,5 @@
 -- The answers of a row by number are the model's, in its order; and a row that is closed leaves everything as it was.
+use Rattle.std.specs.Prelude.{if◌then◌else◌}
 use mathlib.Core.Path.{◌≡◌, refl, sym, ap, ◌∙◌, subst}
 use mathlib.Core.Bool.{Bool, true, false, not, ◌||◌, and-eq-true_iff}
 use mathlib.Core.Logic.{◌≢◌}
@@ -9,7 +10,7 @@ use native.Mathlib.Omega.{arith}
 use lib.Dec.{eqb}
 use lib.ListN.{set}
 use borrow.Author.Tests.{eq-eqb, ne_eqb, not-true}
-use Rattle.lists.specs.Lists.{if◌then◌else◌, bit, within, when, is_empty, bind, count_up}
+use Rattle.lists.specs.Lists.{bit, within, when, is_empty, bind, count_up}
 use Rattle.lists.specs.Tables.{tabulate}
 use Rattle.lists.proofs.Lists.{clash}
 use Rattle.lists.proofs.Cuts.{count_up_next, count_up_none}

@@ -1,4 +1,5 @@
 -- Atoms that are passed over by their columns.
+use Rattle.std.specs.Prelude.{if◌then◌else◌}
 use mathlib.Core.Path.{◌≡◌, refl, sym, ap, ◌∙◌, subst}
 use mathlib.Core.Bool.{Bool, true, false, not, ◌&&◌, false≢true}
 use mathlib.Core.List.{List}
@@ -7,7 +8,6 @@ use native.Mathlib.Omega.{arith}
 use lib.Dec.{eqb, ltb}
 use lib.ListN.{get_or}
 use borrow.Author.Tests.{ltb-true, ltb-false}
-use Rattle.lists.specs.Lists.{if◌then◌else◌}
 use Rattle.model.specs.Matching.{candidate}
 use Rattle.state.specs.View.{atom_p, atom_a, atom_b, atom_at}
 use Rattle.queries.specs.declared.Wanted.{Wanted}

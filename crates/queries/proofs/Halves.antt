@@ -1,4 +1,5 @@
 -- An id that is wanted stands at one place only: no candidate at another fits.
+use Rattle.std.specs.Prelude.{if◌then◌else◌}
 use mathlib.Core.Path.{◌≡◌, refl, sym, ap, ◌∙◌, subst}
 use mathlib.Core.Bool.{Bool, true, false, not, ◌&&◌}
 use mathlib.Core.Logic.{◌≢◌}
@@ -8,7 +9,7 @@ use native.Mathlib.Omega.{arith}
 use lib.Dec.{eqb, leb, ltb}
 use lib.ListN.{length, get_or, length-map}
 use borrow.Author.Tests.{ne_eqb, le-leb, leb-true, leb-false}
-use Rattle.lists.specs.Lists.{if◌then◌else◌, within, when, Pairs}
+use Rattle.lists.specs.Lists.{within, when, Pairs}
 use Rattle.lists.specs.Tables.{tabulate, index_of}
 use Rattle.lists.proofs.Lists.{pairs_map}
 use Rattle.lists.proofs.Tests.{and2}

@@ -1,4 +1,5 @@
 -- A candidate with a column that is not the number wanted there does not fit.
+use Rattle.std.specs.Prelude.{if◌then◌else◌}
 use mathlib.Core.Path.{◌≡◌, refl, sym, ap, ◌∙◌}
 use mathlib.Core.Bool.{Bool, true, false, not, and-eq-true_iff}
 use mathlib.Core.Logic.{⊎_elim}
@@ -8,7 +9,7 @@ use lib.Dec.{eqb}
 use lib.ListN.{get_or, set}
 use lib.Seq.{get_or-set_other}
 use borrow.Author.Tests.{eqb-true, eqb-false, not-true}
-use Rattle.lists.specs.Lists.{In, first, later, when, bind, if◌then◌else◌}
+use Rattle.lists.specs.Lists.{In, first, later, when, bind}
 use Rattle.lists.proofs.Lists.{in_nil, in_one, or_cases}
 use Rattle.model.specs.declared.Row.{Row}
 use Rattle.model.specs.Program.{any?, constant?, constant}

@@ -1,6 +1,6 @@
 -- A row's candidates by number, and what the row gives from a number on.
-use Rattle.std.specs.Prelude.{◌≡◌, Bool, not, ◌&&◌, ◌||◌, ◌≢◌, List, [], ◌∷◌, map, ℕ, ◌+◌, ◌-◌, ◌*◌, ◌/◌, ◌%◌, ◌<◌, ◌≤◌, eqb, ltb, length, get_or}
-use Rattle.lists.specs.Lists.{if◌then◌else◌, bit, within, when, is_empty, bind, count_up}
+use Rattle.std.specs.Prelude.{◌≡◌, Bool, not, ◌&&◌, ◌||◌, ◌≢◌, List, [], ◌∷◌, map, ℕ, ◌+◌, ◌-◌, ◌*◌, ◌/◌, ◌%◌, ◌<◌, ◌≤◌, eqb, ltb, length, get_or, if◌then◌else◌}
+use Rattle.lists.specs.Lists.{bit, within, when, is_empty, bind, count_up}
 use Rattle.model.specs.declared.Row.{Row}
 use Rattle.model.specs.declared.Atom.{Atom}
 use Rattle.model.specs.Program.{any?, constant?, constant}

@@ -1,6 +1,6 @@
 -- What the code's structs say in the model's terms, and what the queries ask of the words.
-use Rattle.std.specs.Prelude.{◌≡◌, Bool, true, false, not, ◌&&◌, ◌||◌, ◌≢◌, List, [], ℕ, ◌+◌, ◌<◌, ◌≤◌, eqb, length, take, get_or}
-use Rattle.lists.specs.Lists.{if◌then◌else◌, bit, when}
+use Rattle.std.specs.Prelude.{◌≡◌, Bool, true, false, not, ◌&&◌, ◌||◌, ◌≢◌, List, [], ℕ, ◌+◌, ◌<◌, ◌≤◌, eqb, length, take, get_or, if◌then◌else◌}
+use Rattle.lists.specs.Lists.{bit, when}
 use Rattle.model.specs.declared.Row.{Row}
 use Rattle.model.specs.Configuration.{no_value, value_of}
 use Rattle.model.specs.Matching.{Candidate, candidate, meet, Found}

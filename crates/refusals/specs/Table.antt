@@ -1,7 +1,6 @@
 -- The causes of refusals in plain words, by their numbers in document 01's table.
-use Rattle.std.specs.Prelude.{◌≡◌, List, ℕ, ◌≤◌, eqb, length, take}
+use Rattle.std.specs.Prelude.{◌≡◌, List, ℕ, ◌≤◌, eqb, length, take, if◌then◌else◌}
 use Prim.Native.String.{String}
-use Rattle.lists.specs.Lists.{if◌then◌else◌}
 use Rattle.model.specs.Text.{bytes}
 use Rattle.refusals.specs.declared.Words.{Words}
 

@@ -1,4 +1,5 @@
 -- A row that stands in its place and fits there passes the tests of a load.
+use Rattle.std.specs.Prelude.{if◌then◌else◌}
 use mathlib.Core.Path.{◌≡◌, refl, ap, sym, subst, ◌∙◌}
 use mathlib.Core.Bool.{Bool, true, false, not, ◌&&◌, ◌||◌}
 use Prim.Native.Nat.{ℕ, ◌<◌}
@@ -6,7 +7,6 @@ use native.Mathlib.Omega.{arith}
 use lib.ListN.{replicate}
 use lib.Dec.{eqb, leb, ltb}
 use borrow.Author.Tests.{lt-leb, le-ltb}
-use Rattle.lists.specs.Lists.{if◌then◌else◌}
 use Rattle.model.specs.declared.Row.{Row}
 use Rattle.model.specs.declared.Scan.{Scan}
 use Rattle.model.specs.Load.{same_rule, lacking, part_full, initial, too_many, in_order, set_0_row, begun, rule_row, against_kind, breaks, valueless, taken, fault, take_row, passed}

@@ -1,6 +1,5 @@
 -- What the tests on rows ask of a scan, and what their answer says.
-use Rattle.std.specs.Prelude.{List, ℕ, ◌≤◌, eqb}
-use Rattle.lists.specs.Lists.{if◌then◌else◌}
+use Rattle.std.specs.Prelude.{List, ℕ, ◌≤◌, eqb, if◌then◌else◌}
 use Rattle.model.specs.declared.Scan.{Scan}
 use Rattle.model.specs.Load as Load
 use Rattle.model.specs.Load.{passed, refused_at}

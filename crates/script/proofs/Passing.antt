@@ -1,4 +1,5 @@
 -- The words of a line behind a place, and their numbers, one after the other.
+use Rattle.std.specs.Prelude.{if◌then◌else◌}
 use Prim.Native.Nat.{ℕ, suc, ◌+◌, ◌-◌, ◌%◌, ◌≤◌, ◌<◌}
 use mathlib.Core.Path.{◌≡◌, refl, ap, ◌∙◌, sym}
 use mathlib.Core.Bool.{Bool, true, false}
@@ -9,7 +10,7 @@ use borrow.Author.Tests.{leb-true, leb-false}
 use lib.ListN.{length, take, drop, get_or, set, length-append, length-drop, length-set, drop_of_length-le}
 use lib.Seq.{drop-drop, length-take-le, set-append_seam, get_or-append_seam}
 use mathlib.Core.Logic.{◌≢◌}
-use Rattle.lists.specs.Lists.{if◌then◌else◌, bit}
+use Rattle.lists.specs.Lists.{bit}
 use Rattle.lists.proofs.Cuts.{drop_next}
 use Rattle.script.specs.declared.Number.TheVariants.{Value, Unreadable}
 use Rattle.script.specs.declared.Found.{Found}

@@ -1,6 +1,6 @@
 -- What the reader of a script's line answers.
-use Rattle.std.specs.Prelude.{◌≡◌, Bool, true, false, ◌&&◌, ◌||◌, ◌≢◌, List, [], ◌∷◌, ◌++◌, ℕ, ◌+◌, ◌-◌, ◌%◌, ◌≤◌, ◌<◌, eqb, leb, length, take, drop, get_or}
-use Rattle.lists.specs.Lists.{if◌then◌else◌, bit, every, is_empty, same}
+use Rattle.std.specs.Prelude.{◌≡◌, Bool, true, false, ◌&&◌, ◌||◌, ◌≢◌, List, [], ◌∷◌, ◌++◌, ℕ, ◌+◌, ◌-◌, ◌%◌, ◌≤◌, ◌<◌, eqb, leb, length, take, drop, get_or, if◌then◌else◌}
+use Rattle.lists.specs.Lists.{bit, every, is_empty, same}
 use Rattle.model.specs.Text.{digits, bytes}
 use Rattle.script.specs.declared.Command.{Command}
 use Rattle.script.specs.declared.Command.TheVariants.{Load, Program, Sense, Step, Answer, Delete, Run, Trace, Show, Dump, Config, Atom, Plan, Clock, Unknown}

@@ -1,5 +1,6 @@
 -- What a row gives hangs only on the values of the variables that it looks at: found things that are alike lead to things that are alike,
 -- one by one, in the same order.
+use Rattle.std.specs.Prelude.{if◌then◌else◌}
 use mathlib.Core.Path.{◌≡◌, refl, sym, ap, ◌∙◌, subst}
 use mathlib.Core.Bool.{Bool, true, false}
 use mathlib.Core.Logic.{⊎_elim}
@@ -10,7 +11,7 @@ use lib.Dec.{eqb}
 use lib.ListN.{get_or, set, length-set}
 use lib.Seq.{get_or-set_same, get_or-set_other}
 use borrow.Author.Tests.{eqb-true, eqb-false, leb-false}
-use Rattle.lists.specs.Lists.{if◌then◌else◌, when, is_empty, bind}
+use Rattle.lists.specs.Lists.{when, is_empty, bind}
 use Rattle.lists.proofs.Lists.{test}
 use Rattle.model.specs.declared.Row.{Row}
 use Rattle.model.specs.Program.{any?, constant?, constant}

@@ -1,4 +1,5 @@
 -- The test for an equal plan says what the paper says of one.
+use Rattle.std.specs.Prelude.{if◌then◌else◌}
 use mathlib.Core.Path.{◌≡◌, refl, sym, ◌∙◌, subst}
 use mathlib.Core.Bool.{Bool, true, false, ◌||◌, not, and-eq-true_iff}
 use mathlib.Core.Logic.{◌⊎◌, inl, inr, ⊎_elim, ◌↔◌}
@@ -7,7 +8,7 @@ use Prim.Native.Nat.{ℕ, ◌<◌}
 use native.Mathlib.Omega.{arith}
 use lib.Dec.{eqb}
 use borrow.Author.Tests.{eqb-true, eq-eqb, not-true}
-use Rattle.lists.specs.Lists.{In, first, later, Pairs, if◌then◌else◌, rising_set, same, some}
+use Rattle.lists.specs.Lists.{In, first, later, Pairs, rising_set, same, some}
 use Rattle.lists.proofs.Lists.{clash, in_nil, in_cons, in_one, in_map, or_cases}
 use Rattle.lists.proofs.Tests.{and2, same_equal, same_self}
 use Rattle.lists.proofs.Some.{some_in, in_some}

@@ -1,4 +1,5 @@
 -- One row: what the search tries of it is what the relation says.
+use Rattle.std.specs.Prelude.{if◌then◌else◌}
 use mathlib.Core.Path.{◌≡◌, refl, sym, ◌∙◌, subst}
 use mathlib.Core.Bool.{Bool, true, false, and-eq-true_iff}
 use mathlib.Core.Logic.{inl, inr, ⊎_elim}
@@ -8,7 +9,7 @@ use native.Mathlib.Omega.{arith}
 use lib.Dec.{eqb, leb}
 use lib.ListN.{set}
 use borrow.Author.Tests.{eqb-true, eqb-false, eq-eqb, ne_eqb, leb-true, leb-false, le-leb}
-use Rattle.lists.specs.Lists.{In, first, when, if◌then◌else◌, bind, is_empty}
+use Rattle.lists.specs.Lists.{In, first, when, bind, is_empty}
 use Rattle.lists.proofs.Lists.{test, clash, in_nil, in_one, in_map, map_in, in_cast}
 use Rattle.lists.proofs.Bind.{append-nil, bind_in, in_bind}
 use Rattle.model.specs.declared.Row.{Row}

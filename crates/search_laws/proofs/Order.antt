@@ -1,11 +1,12 @@
 -- The candidates of every row stand in rising id, for 7 by plan and then atom.
+use Rattle.std.specs.Prelude.{if◌then◌else◌}
 use mathlib.Core.Path.{◌≡◌, refl, ap}
 use mathlib.Core.Bool.{Bool, true, false, not}
 use mathlib.Core.Logic.{inl, inr}
 use mathlib.Core.List.{List, [], ◌∷◌, map}
 use Prim.Native.Nat.{ℕ, ◌<◌}
 use lib.Dec.{eqb}
-use Rattle.lists.specs.Lists.{In, first, later, Pairs, keep, if◌then◌else◌, within}
+use Rattle.lists.specs.Lists.{In, first, later, Pairs, keep, within}
 use Rattle.lists.proofs.Lists.{in_map, map_in, in_nil, pairs_keep, pairs_map}
 use Rattle.lists.proofs.Bind.{pairs_bind}
 use Rattle.lists.proofs.Tests.{map_pairs}

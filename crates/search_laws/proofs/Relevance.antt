@@ -1,11 +1,12 @@
 -- Whether a match counts hangs on its ids, and on the values of the variables that the body looks at.
+use Rattle.std.specs.Prelude.{if◌then◌else◌}
 use mathlib.Core.Path.{◌≡◌, refl, ap, ◌∙◌}
 use mathlib.Core.Bool.{Bool, true, false, not, ◌||◌, ◌&&◌, and-eq-true_iff}
 use mathlib.Core.List.{List, [], ◌∷◌}
 use Prim.Native.Nat.{ℕ}
 use lib.Dec.{eqb, leb}
 use borrow.Author.Tests.{leb-true}
-use Rattle.lists.specs.Lists.{if◌then◌else◌, first, later, some, rising_set, same}
+use Rattle.lists.specs.Lists.{first, later, some, rising_set, same}
 use Rattle.model.specs.declared.Row.{Row}
 use Rattle.model.specs.Program.{variable?, body, is_object}
 use Rattle.model.specs.Configuration.{Config, Plan, no_value, value_of}

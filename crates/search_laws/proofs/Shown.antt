@@ -1,4 +1,5 @@
 -- The candidates of a row are what the configuration shows it.
+use Rattle.std.specs.Prelude.{if◌then◌else◌}
 use mathlib.Core.Path.{◌≡◌, refl, sym, subst}
 use mathlib.Core.Bool.{Bool, true, false, not, and-eq-true_iff}
 use mathlib.Core.Logic.{◌⊎◌, inl, inr, ⊎_elim, ◌≢◌}
@@ -7,7 +8,7 @@ use Prim.Native.Nat.{ℕ, ◌+◌, ◌≤◌, ◌<◌}
 use native.Mathlib.Omega.{arith}
 use lib.Dec.{eqb, leb}
 use borrow.Author.Tests.{eqb-true, eqb-false, eq-eqb, ne_eqb, leb-true, leb-false, le-leb, not-true}
-use Rattle.lists.specs.Lists.{In, first, if◌then◌else◌, within, keep}
+use Rattle.lists.specs.Lists.{In, first, within, keep}
 use Rattle.lists.proofs.Lists.{test, clash, in_one, in_map, map_in, in_keep, keep_in, in_cast}
 use Rattle.lists.proofs.Bind.{bind_in, in_bind}
 use Rattle.lists.proofs.Tests.{false_not}

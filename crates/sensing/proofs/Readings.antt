@@ -1,4 +1,5 @@
 -- A row of sense, and rows in turn, as the model works them.
+use Rattle.std.specs.Prelude.{if◌then◌else◌}
 use mathlib.Core.Path.{◌≡◌, refl, sym, ap, ◌∙◌, subst}
 use mathlib.Core.Bool.{Bool, true, false, ◌&&◌}
 use mathlib.Core.Logic.{◌≢◌}
@@ -11,7 +12,7 @@ use borrow.Author.Tests.{eq-eqb, ne_eqb}
 use Rattle.state.specs.declared.Scalars.{Scalars}
 use Rattle.state.specs.View.{config_of, atom_counted, atom_bar}
 use Rattle.deletion.proofs.Sound.{sound_added}
-use Rattle.lists.specs.Lists.{if◌then◌else◌, every}
+use Rattle.lists.specs.Lists.{every}
 use Rattle.model.specs.declared.Row.{Row}
 use Rattle.model.specs.Configuration.{Config, add_atom}
 use Rattle.model.specs.Log.{Log, emit_atom, Outcome, refused, accepted, unless, and_then}

@@ -1,6 +1,6 @@
 -- What the words and the scalars of a configuration say.
-use Rattle.std.specs.Prelude.{◌≡◌, List, [], ◌∷◌, map, ℕ, ◌+◌, ◌*◌, ◌<◌, ◌≤◌, eqb, leb, length, take, drop, get_or, set}
-use Rattle.lists.specs.Lists.{if◌then◌else◌, Pairs}
+use Rattle.std.specs.Prelude.{◌≡◌, List, [], ◌∷◌, map, ℕ, ◌+◌, ◌*◌, ◌<◌, ◌≤◌, eqb, leb, length, take, drop, get_or, set, if◌then◌else◌}
+use Rattle.lists.specs.Lists.{Pairs}
 use Rattle.lists.specs.Tables.{tabulate, trimmed}
 use Rattle.table.specs.Rows.{row}
 use Rattle.model.specs.declared.Atom.{Atom}

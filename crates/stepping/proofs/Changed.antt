@@ -1,11 +1,12 @@
 -- A live plan that was changed is still one.
+use Rattle.std.specs.Prelude.{if◌then◌else◌}
 use mathlib.Core.Path.{◌≡◌, refl, sym, ap, subst}
 use mathlib.Core.Bool.{Bool, true, false}
 use mathlib.Core.List.{List, map}
 use Prim.Native.Nat.{ℕ, ◌<◌}
 use lib.Dec.{eqb}
 use lib.ListN.{length}
-use Rattle.lists.specs.Lists.{Pairs, if◌then◌else◌}
+use Rattle.lists.specs.Lists.{Pairs}
 use Rattle.lists.specs.Tables.{tabulate}
 use Rattle.lists.proofs.Lists.{pairs_map}
 use Rattle.lists.proofs.Tests.{map_pairs}

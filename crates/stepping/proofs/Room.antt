@@ -1,4 +1,5 @@
 -- A work that needs one more atom, one more plan: refused where there is a bar, done where there is none.
+use Rattle.std.specs.Prelude.{if◌then◌else◌}
 use mathlib.Core.Path.{◌≡◌, refl, sym, ap}
 use mathlib.Core.Bool.{Bool, true, false}
 use mathlib.Core.Logic.{◌≢◌}
@@ -6,7 +7,6 @@ use Prim.Native.Nat.{ℕ}
 use lib.Dec.{eqb, leb}
 use lib.ListN.{length}
 use native.Mathlib.Omega.{arith}
-use Rattle.lists.specs.Lists.{if◌then◌else◌}
 use Rattle.model.specs.Configuration.{most_atoms, most_plans, last_next}
 use Rattle.model.specs.Log.{Log, Outcome, refused, unless}
 use Rattle.model.specs.Calls.{room_for_atom, room_for_plan}
