@@ -9,7 +9,6 @@ use lib.Dec.{ltb}
 use lib.ListN.{length, get_or, set, drop, length-set}
 use lib.Seq.{get_or-set_same, get_or-set_other, drop-set-lt}
 use borrow.Author.Tests.{ltb-true, ltb-false}
-use Rattle.lists.specs.Lists.{put}
 use Rattle.lists.specs.Tables.{tabulate, keep_by}
 use Rattle.lists.proofs.Bind.{append-nil}
 use Rattle.lists.proofs.Tables.{equal_or_not, less_or_more, tabulate_same, keep_by_nil, keep_by_more}

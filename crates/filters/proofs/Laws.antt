@@ -1,24 +1,22 @@
 -- A row that is barred has no answer: an atom that fitted it would have a mark where none is.
-use Rattle.std.specs.Prelude.{if◌then◌else◌}
-use mathlib.Core.Path.{◌≡◌, refl, sym, ap, ◌∙◌, subst}
-use mathlib.Core.Bool.{Bool, true, false, ◌&&◌, and-eq-true_iff, false≢true}
-use mathlib.Core.Logic.{◌≢◌, ⊎_elim}
+use mathlib.Core.Path.{◌≡◌, refl, sym, ap, ◌∙◌}
+use mathlib.Core.Bool.{Bool, true, false, ◌&&◌, and-eq-true_iff}
+use mathlib.Core.Logic.{⊎_elim}
 use mathlib.Core.List.{List, []}
-use Prim.Native.Nat.{ℕ, ◌+◌, ◌-◌, ◌%◌, ◌≤◌, ◌<◌}
+use Prim.Native.Nat.{ℕ, ◌+◌, ◌%◌, ◌≤◌, ◌<◌}
 use native.Mathlib.Omega.{arith}
 use lib.Dec.{eqb, ltb}
 use lib.ListN.{length, get_or, set, length-set}
 use lib.Seq.{get_or-set_same, get_or-set_other}
-use borrow.Author.Tests.{eqb-true, eqb-false, ne_eqb, ltb-true, ltb-false}
+use borrow.Author.Tests.{eqb-true, eqb-false, ltb-true, ltb-false}
 use Rattle.lists.proofs.Lists.{test}
 use Rattle.model.specs.declared.Row.{Row}
 use Rattle.model.specs.declared.Atom.{Atom}
 use Rattle.model.specs.Matching.{Found}
 use Rattle.state.specs.declared.Scalars.{Scalars}
 use Rattle.state.specs.View.{atom_p, atom_a, atom_b, atom_at}
-use Rattle.queries.specs.declared.Wanted.{Wanted}
 use Rattle.queries.specs.View.{column_of, sought_of, stands_at}
-use Rattle.queries.specs.Answers.{atom_candidate, hits, answers, Skipped}
+use Rattle.queries.specs.Answers.{answers}
 use Rattle.queries.proofs.Answers.{hits_end}
 use Rattle.queries.proofs.Skips.{unknown, atoms_counted, hits_past_atoms}
 use Rattle.queries.proofs.Eights.{not_standing}

@@ -1,13 +1,12 @@
 -- Candidates that are passed over: none of them fits, so what a row gives from the first of them on is what it gives behind the last.
 use mathlib.Core.Path.{◌≡◌, refl, sym, ap, ◌∙◌, subst}
 use mathlib.Core.Bool.{Bool, true, false, not, ◌&&◌, ◌||◌, and-eq-true_iff, false≢true}
-use mathlib.Core.Logic.{◌≢◌}
 use mathlib.Core.List.{List, [], ◌++◌, map}
 use Prim.Native.Nat.{ℕ, zero, suc, ◌+◌, ◌-◌, ◌*◌, ◌/◌, ◌%◌, ◌≤◌, ◌<◌}
 use native.Mathlib.Omega.{arith}
-use lib.Dec.{ltb, eqb}
+use lib.Dec.{ltb}
 use lib.ListN.{length, get_or}
-use borrow.Author.Tests.{le-leb, ltb-true, ltb-false, le-ltb, eqb-false, not-true, not-false}
+use borrow.Author.Tests.{le-leb, ltb-true, ltb-false, le-ltb, not-false}
 use Rattle.lists.specs.Lists.{within, when, bind}
 use Rattle.lists.proofs.Lists.{or_right}
 use Rattle.lists.proofs.Tests.{and2, or_left}

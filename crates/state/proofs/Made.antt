@@ -1,7 +1,7 @@
 -- What is written behind the last atom or plan is an instance more, and all else stands.
 use mathlib.Core.Path.{◌≡◌, refl, ap, ◌∙◌}
 use mathlib.Core.Logic.{◌≢◌}
-use mathlib.Core.List.{List, [], ◌∷◌, ◌++◌}
+use mathlib.Core.List.{List, [], ◌++◌}
 use Prim.Native.Nat.{ℕ, ◌+◌, ◌-◌, ◌*◌, ◌<◌, ◌≤◌}
 use native.Mathlib.Numerals.{add-one}
 use native.Mathlib.Omega.{arith}
@@ -10,7 +10,7 @@ use lib.Seq.{get_or-take, get_or-set_same, get_or-set_other, drop-set-lt, length
 use Rattle.lists.specs.Tables.{tabulate, trimmed}
 use Rattle.lists.proofs.Tables.{tabulate_same, tabulate_get, tabulate_append}
 use Rattle.table.specs.Rows.{row, placed}
-use Rattle.table.proofs.Rows.{placed_same, placed_before, placed_behind, placed_long}
+use Rattle.table.proofs.Rows.{placed_same, placed_before, placed_long}
 use Rattle.table.proofs.Parts.{part, with_part, rest_is, rest_same}
 use Rattle.model.specs.declared.Atom.{Atom}
 use Rattle.model.specs.Configuration.{Plan, Config, add_atom, add_plan, new_plan}

@@ -1,19 +1,19 @@
 -- An id that is looked for near a guess: where it stands, or that it stands nowhere.
 use mathlib.Core.Path.{◌≡◌, refl, sym, ap, ◌∙◌}
 use mathlib.Core.Bool.{Bool, true, false, not}
-use mathlib.Core.List.{List, map}
+use mathlib.Core.List.{List}
 use mathlib.Core.Logic.{⊎_elim, ◌≢◌}
 use Prim.Native.Nat.{ℕ, ◌+◌, ◌<◌, ◌≤◌}
 use native.Mathlib.Omega.{arith}
 use lib.Dec.{leb, ltb}
-use lib.ListN.{length, get_or, length-map}
-use borrow.Author.Tests.{ltb-true, ltb-false, le-ltb, le-leb, lt-leb}
-use Rattle.lists.specs.Lists.{Pairs, member}
+use lib.ListN.{length, get_or}
+use borrow.Author.Tests.{ltb-true, ltb-false, le-leb, lt-leb}
+use Rattle.lists.specs.Lists.{member}
 use Rattle.lists.specs.Tables.{tabulate, index_of}
 use Rattle.lists.proofs.Tables.{pairs_get}
 use Rattle.lists.proofs.Tables.{equal_or_not, less_or_more, tabulate_at, tabulate_length, tabulate_map, index_tabulated_is, index_member}
 use Rattle.model.specs.declared.Atom.{Atom}
-use Rattle.state.specs.View.{atom_at, atoms_of, atom_ids_of, AtomsRise}
+use Rattle.state.specs.View.{atom_at, atom_ids_of, AtomsRise}
 
 module _ (W : List ℕ) (n : ℕ) where
   -- the ids by their places

@@ -6,11 +6,8 @@ use Rattle.program.specs.Rows.{rows_of}
 use Rattle.state.specs.declared.Scalars.{Scalars}
 use Rattle.state.specs.View.{config_of}
 use Rattle.stepping.specs.declared.Made.{Made}
-use Rattle.stepping.specs.declared.Made.TheVariants as Made
 use Rattle.stepping.specs.declared.How.{How}
-use Rattle.stepping.specs.declared.How.TheVariants as How
 use Rattle.stepping.specs.declared.Did.{Did}
-use Rattle.stepping.specs.declared.Did.TheVariants as Did
 use Rattle.stepping.specs.declared.Progress.{Progress}
 
 -- "the plan or last atom made, or none"

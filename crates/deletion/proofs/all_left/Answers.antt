@@ -2,7 +2,6 @@
 use Prim.Native.Nat.{ℕ}
 use mathlib.Core.Bool.{false}
 use lib.ListN.{get_or}
-use borrow.Author.Rules.{rules}
 use Rattle.deletion.proofs.Moves.{eight_true}
 use Rattle.deletion.proofs.all_left.Goals as goal
 

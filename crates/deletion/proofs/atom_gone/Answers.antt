@@ -1,6 +1,5 @@
 -- The mark of an id that is found tells; an id below the target has none cleared.
 use Rattle.deletion.proofs.Marks.{gone_before, gone_missing, gone_found}
-use borrow.Author.Rules.{rules}
 use Rattle.deletion.proofs.atom_gone.Goals as goal
 
 pub returns-then-id-target : goal.returns-then-id-target

@@ -1,11 +1,7 @@
 -- No plan that was passed has the target as its subgoal.
-use mathlib.Core.Path.{◌≡◌, sym, ◌∙◌}
+use mathlib.Core.Path.{◌≡◌}
 use Prim.Native.Nat.{ℕ, ◌≤◌, ◌<◌, ◌-◌}
-use native.Mathlib.Omega.{arith}
-use borrow.Author.Count.{below_more}
-use borrow.Author.Rules.{rules}
 use Rattle.state.specs.View.{plan_at}
-use Rattle.deletion.proofs.Unlinked.{owner_is}
 use Rattle.deletion.proofs.find_owner.Given as goal
 
 abbrev pub invariant-loop-i : goal.invariant-loop-i

@@ -7,7 +7,6 @@ use lib.ListN.{length, length-drop}
 use Rattle.table.proofs.Parts.{rest_is}
 use Rattle.state.proofs.Made.{atoms_stand}
 use Rattle.deletion.proofs.Kept.{plans_kept}
-use borrow.Author.Rules.{rules}
 use Rattle.deletion.proofs.keep_plans.Goals as goal
 
 pub returns : goal.returns

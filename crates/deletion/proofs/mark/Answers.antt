@@ -1,9 +1,7 @@
 use mathlib.Core.Path.{◌≡◌, ◌∙◌, sym}
-use Prim.Native.Nat.{◌-◌, ◌<◌, ◌≤◌}
 use native.Mathlib.Omega.{arith}
-use borrow.Author.Rules.{rules}
 use Rattle.state.proofs.Live.{sound_atoms_rise, sound_plans_rise}
-use Rattle.deletion.proofs.Pass.{Passed, no_atom_zero, marked_none, passed_none, passed_more, passed_all}
+use Rattle.deletion.proofs.Pass.{marked_none, passed_none, passed_more, passed_all}
 use Rattle.deletion.proofs.mark.Goals as goal
 
 pub mark_atom-place-requires : goal.mark_atom-place-requires

@@ -1,6 +1,5 @@
 -- The mark of an id that is found is cleared. Of the guess nothing is asked.
 use Rattle.deletion.proofs.Marks.{atom_missing, atom_found}
-use borrow.Author.Rules.{rules}
 use Rattle.deletion.proofs.mark_atom.Goals as goal
 
 pub returns-then-atoms-k : goal.returns-then-atoms-k

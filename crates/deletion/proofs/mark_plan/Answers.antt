@@ -1,6 +1,5 @@
 -- The mark of an id that is found is cleared.
 use Rattle.deletion.proofs.Marks.{plan_missing, plan_found}
-use borrow.Author.Rules.{rules}
 use Rattle.deletion.proofs.mark_plan.Goals as goal
 
 pub returns-then-plans-k : goal.returns-then-plans-k

@@ -1,4 +1,3 @@
-use borrow.Author.Rules.{rules}
 use Rattle.deletion.proofs.Moves.{five_moved}
 use Rattle.deletion.proofs.move_atoms.Goals as goal
 

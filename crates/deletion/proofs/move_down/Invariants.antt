@@ -1,10 +1,6 @@
 -- The words before k have come down: those of the eights before the loop, the others in it.
-use borrow.Author.Rules.{rules}
-use mathlib.Core.Path.{◌≡◌, subst, ◌∙◌}
-use Prim.Native.Nat.{ℕ, ◌+◌, ◌-◌, ◌≤◌}
-use native.Mathlib.Omega.{arith}
+use Prim.Native.Nat.{◌+◌, ◌-◌, ◌≤◌}
 use Rattle.deletion.specs.Moves.{Moved}
-use Rattle.deletion.proofs.Moves.{moved_none, moved_next, moved_on}
 use Rattle.deletion.proofs.move_down.Given as goal
 
 abbrev pub invariant-loop-k : goal.invariant-loop-k

@@ -2,7 +2,6 @@
 use native.Mathlib.Omega.{arith}
 use Prim.Native.Nat.{◌+◌}
 use lib.ListN.{length-set}
-use borrow.Author.Rules.{rules}
 use Rattle.deletion.proofs.Moves.{moved_eight}
 use Rattle.deletion.proofs.move_eight.Goals as goal
 

@@ -1,7 +1,6 @@
 use mathlib.Core.Path.{◌≡◌, subst}
-use Prim.Native.Nat.{ℕ, ◌+◌, ◌-◌, ◌≤◌}
+use Prim.Native.Nat.{ℕ, ◌-◌}
 use native.Mathlib.Omega.{arith}
-use borrow.Author.Rules.{rules}
 use Rattle.deletion.specs.Moves.{Moved}
 use Rattle.deletion.proofs.Moves.{moved_none, moved_on}
 use Rattle.deletion.proofs.move_eights.Goals as goal

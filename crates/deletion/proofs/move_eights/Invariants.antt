@@ -1,10 +1,6 @@
 -- The words before k have come down.
-use mathlib.Core.Path.{◌≡◌, subst}
-use Prim.Native.Nat.{ℕ, ◌+◌, ◌-◌, ◌≤◌}
-use native.Mathlib.Omega.{arith}
-use borrow.Author.Rules.{rules}
+use Prim.Native.Nat.{◌+◌, ◌-◌, ◌≤◌}
 use Rattle.deletion.specs.Moves.{Moved}
-use Rattle.deletion.proofs.Moves.{moved_none, moved_on}
 use Rattle.deletion.proofs.move_eights.Given as goal
 
 abbrev pub invariant-loop-k : goal.invariant-loop-k

@@ -1,6 +1,4 @@
 -- Each test is what its callee says; the first that is true tells.
-use borrow.Author.Rules.{rules}
-use borrow.Author.Tests.{not-true, not-false}
 use mathlib.Core.Path.{refl}
 use Rattle.deletion.specs.Marks.{atom_gone}
 use Rattle.deletion.proofs.Marks.{stays_before, goes_marked, goes_first, goes_second, goes_third, goes_fourth, gone_is}

@@ -8,7 +8,6 @@ use Rattle.lists.specs.Tables.{keep_by}
 use Rattle.state.specs.View.{atoms_of, plans_of}
 use Rattle.deletion.specs.Marks.{unlinked_from}
 use Rattle.deletion.proofs.Removed.{removed, counted, left_sound}
-use borrow.Author.Rules.{rules}
 use Rattle.deletion.proofs.remove.Goals as goal
 
 pub mark-requires : goal.mark-requires

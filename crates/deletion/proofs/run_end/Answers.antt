@@ -1,9 +1,7 @@
-use borrow.Author.Rules.{rules}
-use Prim.Native.Nat.{ℕ, ◌+◌, ◌-◌, ◌<◌, ◌≤◌}
+use Prim.Native.Nat.{ℕ}
 use native.Mathlib.Omega.{arith}
 use mathlib.Core.Path.{◌≡◌, sym, subst}
 use mathlib.Core.Logic.{⊎_elim, ◌≢◌}
-use borrow.Author.Tests.{not-false}
 use Rattle.lists.proofs.Tables.{equal_or_not}
 use Rattle.deletion.proofs.Moves.{less}
 use mathlib.Core.Bool.{true, false}

@@ -1,12 +1,6 @@
 -- The marks before k are true: those of the eights that were passed, then one by one.
-use borrow.Author.Rules.{rules}
-use Prim.Native.Nat.{ℕ, ◌+◌, ◌-◌, ◌<◌, ◌≤◌}
-use native.Mathlib.Omega.{arith}
-use mathlib.Core.Path.{◌≡◌, sym, subst}
-use mathlib.Core.Logic.{⊎_elim, ◌≢◌}
-use borrow.Author.Tests.{not-false}
-use Rattle.lists.proofs.Tables.{equal_or_not}
-use Rattle.deletion.proofs.Moves.{less}
+use Prim.Native.Nat.{ℕ, ◌-◌, ◌<◌, ◌≤◌}
+use mathlib.Core.Path.{◌≡◌}
 use mathlib.Core.Bool.{true, false}
 use lib.ListN.{get_or}
 use Rattle.deletion.proofs.run_end.Given as goal

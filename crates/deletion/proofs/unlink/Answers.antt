@@ -2,7 +2,6 @@
 use mathlib.Core.Path.{refl, ◌∙◌, ap}
 use Prim.Native.Nat.{ℕ, ◌-◌}
 use Rattle.deletion.proofs.Unlinked.{no_target, no_owner, owner_unlinked, unlinked_atoms}
-use borrow.Author.Rules.{rules}
 use Rattle.deletion.proofs.unlink.Goals as goal
 
 pub returns-then-target-eq0 : goal.returns-then-target-eq0

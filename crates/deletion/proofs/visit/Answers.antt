@@ -1,15 +1,11 @@
 -- A plan that stays changes nothing; for one that goes its own mark and that of its subgoal are cleared.
-use mathlib.Core.Path.{◌∙◌, ap, sym, refl}
-use mathlib.Core.Bool.{Bool, false}
+use mathlib.Core.Path.{◌∙◌, ap, sym}
+use mathlib.Core.Bool.{false}
 use mathlib.Core.List.{List}
 use Prim.Native.Nat.{ℕ, ◌+◌}
 use lib.ListN.{set, length-set}
-use borrow.Author.Tests.{not-true, not-false}
-use Rattle.lists.specs.Tables.{index_of}
-use Rattle.state.specs.View.{atom_ids_of}
 use Rattle.deletion.specs.Marks.{without_atom}
-use Rattle.deletion.proofs.Marks.{atom_missing, visited_stays, visited_goes}
-use borrow.Author.Rules.{rules}
+use Rattle.deletion.proofs.Marks.{visited_stays, visited_goes}
 use Rattle.deletion.proofs.visit.Goals as goal
 
 pub returns-then-not-plan_goes : goal.returns-then-not-plan_goes

@@ -1,7 +1,6 @@
 -- Each test that fails says no; past the last the row is barred.
-use borrow.Author.Rules.{rules}
 use borrow.Author.Tests.{eqb-true, not-false}
-use mathlib.Core.Path.{◌≡◌, sym, ap, ◌∙◌}
+use mathlib.Core.Path.{sym, ap, ◌∙◌}
 use mathlib.Core.Bool.{false≢true}
 use Prim.Native.Nat.{ℕ}
 use lib.ListN.{get_or}

@@ -1,5 +1,4 @@
 -- A row that is barred has no answer; any other is asked.
-use borrow.Author.Rules.{rules}
 use mathlib.Core.Path.{refl}
 use Rattle.filters.proofs.Laws.{barred_none}
 use Rattle.filters.proofs.next_answer.Goals as goal

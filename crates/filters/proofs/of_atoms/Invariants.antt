@@ -1,10 +1,6 @@
 -- The loop's invariant: the first k atoms are marked.
-use borrow.Author.Rules.{rules}
-use mathlib.Core.Path.{◌≡◌, refl, subst}
-use Prim.Native.Nat.{ℕ, ◌-◌, ◌≤◌}
-use native.Mathlib.Omega.{arith}
+use Prim.Native.Nat.{◌-◌, ◌≤◌}
 use Rattle.filters.specs.Filters.{Marked}
-use Rattle.filters.proofs.Laws.{marked_none, marked_more}
 use Rattle.filters.proofs.of_atoms.Given as goal
 
 abbrev pub invariant-loop-k : goal.invariant-loop-k

@@ -1,7 +1,6 @@
 -- The place is one of the 512, and what is written there is the nogood.
 use mathlib.Core.Path.{ap, ◌∙◌}
 use Rattle.table.specs.Rows.{placed}
-use borrow.Author.Rules.{rules}
 use Rattle.nogoods.proofs.note.Goals as goal
 
 pub returns : goal.returns

@@ -1,7 +1,4 @@
-use borrow.Author.Rules.{rules}
 use native.Mathlib.Omega.{arith}
-use mathlib.Core.Logic.{⊎_elim}
-use Prim.Native.Nat.{◌-◌, ◌<◌}
 use Rattle.nogoods.proofs.place.Goals as goal
 use Rattle.nogoods.proofs.place.Goals.{then-bits-eq1, else-bits-eq1}
 

@@ -1,7 +1,4 @@
 -- The sum stays below 65536.
-use borrow.Author.Rules.{rules}
-use native.Mathlib.Omega.{arith}
-use mathlib.Core.Logic.{⊎_elim}
 use Prim.Native.Nat.{◌-◌, ◌<◌}
 use Rattle.nogoods.proofs.place.Given as goal
 

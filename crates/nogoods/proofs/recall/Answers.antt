@@ -1,8 +1,6 @@
 -- A nogood is believed where every part of it was compared; its ids only if its set has them.
 use mathlib.Core.Path.{refl, sym, ◌∙◌}
-use borrow.Author.Tests.{not-false}
 use Rattle.nogoods.proofs.Laws.{no_ids}
-use borrow.Author.Rules.{rules}
 use Rattle.nogoods.proofs.recall.Goals as goal
 
 pub returns-then-read-rest : goal.returns-then-read-rest

@@ -1,13 +1,8 @@
 -- The loop's invariant: the ids before j are the same.
-use borrow.Author.Rules.{rules}
-use mathlib.Core.Path.{◌≡◌, sym, ◌∙◌}
-use mathlib.Core.Bool.{false≢true}
+use mathlib.Core.Path.{◌≡◌}
 use Prim.Native.Nat.{ℕ, ◌+◌, ◌-◌, ◌<◌}
-use native.Mathlib.Omega.{arith}
-use lib.ListN.{length, get_or}
+use lib.ListN.{get_or}
 use Rattle.table.specs.Rows.{row}
-use Rattle.table.proofs.Rows.{row_long}
-use Rattle.nogoods.proofs.Laws.{ids_more, ids_same}
 use Rattle.nogoods.proofs.same_ids.Given as goal
 
 abbrev pub invariant-loop-j : goal.invariant-loop-j

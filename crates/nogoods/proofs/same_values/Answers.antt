@@ -1,11 +1,10 @@
-use borrow.Author.Rules.{rules}
-use mathlib.Core.Path.{◌≡◌, sym, ap, ◌∙◌}
+use mathlib.Core.Path.{sym, ap, ◌∙◌}
 use mathlib.Core.Bool.{false≢true}
-use Prim.Native.Nat.{ℕ, ◌-◌, ◌/◌, ◌^◌}
+use Prim.Native.Nat.{ℕ, ◌/◌}
 use native.Mathlib.Nat.{div-one}
 use native.Mathlib.Omega.{arith}
 use Rattle.table.specs.Rows.{row}
-use Rattle.nogoods.proofs.Laws.{halved, SameBelow, same_more}
+use Rattle.nogoods.proofs.Laws.{halved, same_more}
 use Rattle.nogoods.proofs.same_values.Goals as goal
 
 pub loop-j-init : goal.loop-j-init

@@ -1,12 +1,8 @@
 -- The loop's invariant: the bits left are those from j on, and the variables before j that are in the set have the nogood's values.
-use borrow.Author.Rules.{rules}
-use mathlib.Core.Path.{◌≡◌, sym, ap, ◌∙◌}
-use mathlib.Core.Bool.{false≢true}
-use Prim.Native.Nat.{ℕ, ◌-◌, ◌/◌, ◌^◌}
-use native.Mathlib.Nat.{div-one}
-use native.Mathlib.Omega.{arith}
+use mathlib.Core.Path.{◌≡◌}
+use Prim.Native.Nat.{◌-◌, ◌/◌, ◌^◌}
 use Rattle.table.specs.Rows.{row}
-use Rattle.nogoods.proofs.Laws.{halved, SameBelow, same_more}
+use Rattle.nogoods.proofs.Laws.{SameBelow}
 use Rattle.nogoods.proofs.same_values.Given as goal
 
 abbrev pub invariant-loop-j : goal.invariant-loop-j

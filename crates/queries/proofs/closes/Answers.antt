@@ -1,5 +1,4 @@
 -- The same test, operand by operand.
-use borrow.Author.Rules.{rules}
 use Rattle.queries.specs.Answers.{closed}
 use Rattle.queries.proofs.closes.Goals as goal
 

@@ -1,6 +1,4 @@
 -- One operand after the other: the code stops where the model has no answer.
-use borrow.Author.Rules.{rules}
-use borrow.Author.Tests.{not-true, not-false}
 use Rattle.model.specs.Matching.{fit}
 use Rattle.queries.proofs.Laws.{stop, go}
 use Rattle.queries.proofs.fit.Goals as goal

@@ -1,12 +1,11 @@
-use borrow.Author.Rules.{rules}
 use mathlib.Core.Path.{◌≡◌, refl, sym, ap, ◌∙◌}
 use mathlib.Core.List.{List}
-use Prim.Native.Nat.{ℕ, ◌-◌, ◌≤◌, ◌<◌}
+use Prim.Native.Nat.{ℕ}
 use native.Mathlib.Omega.{arith}
 use lib.ListN.{length}
 use Rattle.model.specs.Matching.{Found}
-use Rattle.queries.specs.View.{found_in, Sized, Kept}
-use Rattle.queries.specs.Answers.{tried, count_of, hits}
+use Rattle.queries.specs.View.{found_in, Kept}
+use Rattle.queries.specs.Answers.{tried, hits}
 use Rattle.queries.proofs.Answers.{hits_end, hits_none, hits_one, onward_one}
 use Rattle.queries.proofs.Skips.{hits_skipped}
 use Rattle.queries.proofs.next_candidate.Goals as goal

@@ -1,15 +1,9 @@
 -- The loop's invariant: the values are what they were and the first ids too, and what the candidates from `from` on give is what those from
 -- c on give.
-use borrow.Author.Rules.{rules}
-use mathlib.Core.Path.{◌≡◌, refl, sym, ap, ◌∙◌}
-use Prim.Native.Nat.{◌-◌, ◌≤◌, ◌<◌}
-use native.Mathlib.Omega.{arith}
-use lib.ListN.{length}
-use Rattle.model.specs.Matching.{Found}
+use mathlib.Core.Path.{◌≡◌}
+use Prim.Native.Nat.{◌-◌, ◌≤◌}
 use Rattle.queries.specs.View.{found_in, Sized, Kept}
-use Rattle.queries.specs.Answers.{tried, count_of, hits}
-use Rattle.queries.proofs.Answers.{hits_end, hits_none, hits_one, onward_one}
-use Rattle.queries.proofs.Skips.{hits_skipped}
+use Rattle.queries.specs.Answers.{hits}
 use Rattle.queries.proofs.next_candidate.Given as goal
 
 abbrev pub invariant-loop-c : goal.invariant-loop-c

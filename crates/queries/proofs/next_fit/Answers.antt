@@ -1,5 +1,4 @@
 -- All ways say the same.
-use borrow.Author.Rules.{rules}
 use borrow.Author.Tests.{leb-true, not-true}
 use mathlib.Core.Bool.{not, ◌&&◌, and-eq-true_iff}
 use lib.Dec.{leb}

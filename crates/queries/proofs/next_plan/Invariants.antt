@@ -1,14 +1,8 @@
 -- The loop's invariant is that of `next_candidate`; the candidates of the row are the plans.
-use borrow.Author.Rules.{rules}
-use mathlib.Core.Path.{◌≡◌, refl, sym, ap, ◌∙◌}
-use Prim.Native.Nat.{◌-◌, ◌≤◌, ◌<◌}
-use native.Mathlib.Omega.{arith}
-use lib.ListN.{length}
-use Rattle.model.specs.Matching.{Found}
+use mathlib.Core.Path.{◌≡◌}
+use Prim.Native.Nat.{◌-◌, ◌≤◌}
 use Rattle.queries.specs.View.{found_in, Sized, Kept}
-use Rattle.queries.specs.Answers.{tried, hits}
-use Rattle.queries.proofs.Answers.{hits_end, hits_none, hits_one, onward_one}
-use Rattle.queries.proofs.Skips.{plans_numbered, plan_at_number}
+use Rattle.queries.specs.Answers.{hits}
 use Rattle.queries.proofs.next_plan.Given as goal
 
 abbrev pub invariant-loop-c : goal.invariant-loop-c

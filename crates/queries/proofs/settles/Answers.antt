@@ -1,5 +1,4 @@
 -- Each kind of operand by itself.
-use borrow.Author.Rules.{rules}
 use borrow.Author.Tests.{eq-eqb, ne_eqb, le-leb, lt-leb}
 use mathlib.Core.Path.{◌≡◌}
 use mathlib.Core.Bool.{false}

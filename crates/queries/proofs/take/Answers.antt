@@ -1,5 +1,4 @@
 -- A candidate that is not there or does not fit gives nothing; a reason adds its id, any other row does not.
-use borrow.Author.Rules.{rules}
 use borrow.Author.Tests.{eq-eqb, not-true, not-false}
 use mathlib.Core.Path.{refl, ◌∙◌}
 use native.Mathlib.Omega.{arith}

@@ -1,5 +1,4 @@
 -- A constant and a variable with a value meet one number each.
-use borrow.Author.Rules.{rules}
 use borrow.Author.Tests.{eqb-false, ne_eqb, le-leb, lt-leb, not-true}
 use mathlib.Core.Path.{◌≡◌, sym, ◌∙◌}
 use mathlib.Core.Bool.{false, false≢true}

@@ -4,7 +4,6 @@ use lib.ListN.{length}
 use Rattle.state.specs.View.{config_of, atom_counted}
 use Rattle.model.specs.Configuration.{add_atom}
 use Rattle.state.proofs.Changed.{subgoal_linked}
-use borrow.Author.Rules.{rules}
 use Rattle.state.proofs.add_subgoal.Goals as goal
 
 pub returns : goal.returns

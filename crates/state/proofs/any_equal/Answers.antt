@@ -2,7 +2,6 @@ use Prim.Native.Nat.{ℕ}
 use Rattle.model.specs.Configuration.{equal_to}
 use Rattle.state.specs.View.{atom_at}
 use Rattle.lists.proofs.Eights.{eight_false}
-use borrow.Author.Rules.{rules}
 use Rattle.state.proofs.any_equal.Goals as goal
 
 pub returns : goal.returns

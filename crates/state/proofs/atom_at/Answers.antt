@@ -1,4 +1,3 @@
-use borrow.Author.Rules.{rules}
 use Rattle.state.specs.View.{atom_at}
 use Rattle.state.proofs.atom_at.Goals as goal
 

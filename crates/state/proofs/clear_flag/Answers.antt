@@ -2,7 +2,6 @@
 use mathlib.Core.Path.{◌∙◌, ap}
 use Rattle.model.specs.Configuration.{without_flag}
 use Rattle.state.proofs.Changed.{flags_changed}
-use borrow.Author.Rules.{rules}
 use Rattle.state.proofs.clear_flag.Goals as goal
 
 pub returns : goal.returns

@@ -1,7 +1,6 @@
 use Prim.Native.Nat.{◌+◌}
 use native.Mathlib.Omega.{arith}
 use Rattle.state.proofs.Near.{near_is}
-use borrow.Author.Rules.{rules}
 use Rattle.state.proofs.find_near.Goals as goal
 
 pub returns-then-words-guess : goal.returns-then-words-guess

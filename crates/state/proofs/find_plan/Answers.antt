@@ -1,6 +1,5 @@
 -- The same in the part that holds the plans.
 use Rattle.state.specs.View.{plans_at}
-use borrow.Author.Rules.{rules}
 use native.Mathlib.Omega.{arith}
 use mathlib.Core.Path.{◌≡◌, ◌∙◌, ap}
 use mathlib.Core.List.{List, []}

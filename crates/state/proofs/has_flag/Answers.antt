@@ -1,4 +1,3 @@
-use borrow.Author.Rules.{rules}
 use Rattle.state.proofs.Flags.{tests_flag}
 use Rattle.state.proofs.has_flag.Goals as goal
 

@@ -1,6 +1,5 @@
 use mathlib.Core.Path.{ap}
 use Rattle.model.specs.Configuration.{equal_to}
-use borrow.Author.Rules.{rules}
 use Rattle.state.proofs.is_equal.Goals as goal
 
 pub returns : goal.returns

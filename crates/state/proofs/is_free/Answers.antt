@@ -1,9 +1,7 @@
-use Prim.Native.Nat.{◌+◌}
 use native.Mathlib.Omega.{arith}
 use mathlib.Core.Bool.{and-eq-true_iff}
 use borrow.Author.Tests.{ltb-true}
 use Rattle.state.proofs.Near.{absent_is, gap_free}
-use borrow.Author.Rules.{rules}
 use Rattle.state.proofs.is_free.Goals as goal
 
 pub returns-then-n-guess : goal.returns-then-n-guess

@@ -1,5 +1,4 @@
 -- Every column of the plan.
-use borrow.Author.Rules.{rules}
 use Rattle.state.proofs.plan_at.Goals as goal
 
 pub returns : goal.returns

@@ -1,5 +1,4 @@
 -- The zeros behind the last justification are read as 0.
-use borrow.Author.Rules.{rules}
 use mathlib.Core.Path.{◌∙◌}
 use Rattle.state.proofs.View.{plan_justification_is}
 use Rattle.state.proofs.plan_justification.Goals as goal

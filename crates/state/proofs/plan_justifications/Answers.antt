@@ -1,6 +1,5 @@
 -- Four words are the list that they hold, with zeros behind.
 use Rattle.state.proofs.View.{justification_words}
-use borrow.Author.Rules.{rules}
 use Rattle.state.proofs.plan_justifications.Goals as goal
 
 pub returns : goal.returns

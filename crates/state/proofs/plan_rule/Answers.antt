@@ -1,5 +1,4 @@
 -- The column is the plan's.
-use borrow.Author.Rules.{rules}
 use mathlib.Core.Path.{◌∙◌}
 use Rattle.state.proofs.View.{plan_rule_is}
 use Rattle.state.proofs.plan_rule.Goals as goal

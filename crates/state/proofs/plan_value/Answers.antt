@@ -1,5 +1,4 @@
 -- There are eight values.
-use borrow.Author.Rules.{rules}
 use mathlib.Core.Path.{◌∙◌}
 use Rattle.state.proofs.View.{plan_value_is}
 use Rattle.state.proofs.plan_value.Goals as goal

@@ -1,6 +1,5 @@
 -- There are eight values.
 use Rattle.state.proofs.View.{value_words}
-use borrow.Author.Rules.{rules}
 use Rattle.state.proofs.plan_values.Goals as goal
 
 pub returns : goal.returns

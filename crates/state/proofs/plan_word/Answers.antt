@@ -4,7 +4,6 @@ use mathlib.Core.Path.{ap, ◌∙◌}
 use mathlib.Core.List.{List, []}
 use Prim.Native.Nat.{ℕ}
 use lib.ListN.{get_or}
-use borrow.Author.Rules.{rules}
 use Rattle.table.specs.Rows.{row}
 use Rattle.table.proofs.Parts.{rest_is}
 use Rattle.state.proofs.plan_word.Goals as goal

@@ -1,6 +1,5 @@
 -- One word changed.
 use mathlib.Core.Path.{refl}
-use borrow.Author.Rules.{rules}
 use Rattle.state.specs.View.{with_plan_word}
 use Rattle.state.proofs.put_plan_word.Goals as goal
 

@@ -2,7 +2,6 @@
 use mathlib.Core.Path.{◌∙◌, ap}
 use Prim.Native.Nat.{ℕ, ◌-◌}
 use Rattle.state.proofs.Changed.{left_changed}
-use borrow.Author.Rules.{rules}
 use Rattle.state.proofs.remove_step.Goals as goal
 
 pub returns : goal.returns

@@ -1,4 +1,3 @@
-use borrow.Author.Rules.{rules}
 use Rattle.state.proofs.Flags.{sets_flag}
 use Rattle.state.proofs.with_flag.Goals as goal
 

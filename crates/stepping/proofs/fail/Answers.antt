@@ -7,7 +7,6 @@ use Rattle.state.specs.View.{plan_at, config_of}
 use Rattle.state.proofs.Live.{plan_after}
 use Rattle.demands.proofs.Flags.{with_flag_fits}
 use Rattle.stepping.proofs.Changed.{live_after}
-use borrow.Author.Rules.{rules}
 use Rattle.stepping.proofs.fail.Goals as goal
 
 pub set_flag-requires-2 : goal.set_flag-requires-2

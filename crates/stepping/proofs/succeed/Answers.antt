@@ -6,7 +6,6 @@ use Rattle.model.specs.Calls.{set_stepped}
 use Rattle.state.specs.View.{plan_at, config_of}
 use Rattle.state.proofs.Live.{plan_after}
 use Rattle.stepping.proofs.Changed.{live_after}
-use borrow.Author.Rules.{rules}
 use Rattle.stepping.proofs.succeed.Goals as goal
 
 pub set_flag-requires : goal.set_flag-requires

@@ -1,4 +1,3 @@
-use borrow.Author.Rules.{rules}
 use Prim.Native.Nat.{ℕ}
 use Rattle.queries.specs.View.{stands_at}
 use Rattle.lists.proofs.Eights.{eight_false}

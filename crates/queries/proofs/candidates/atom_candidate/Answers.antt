@@ -1,5 +1,4 @@
 -- The atom's columns, and its predicate tested.
-use borrow.Author.Rules.{rules}
 use Rattle.queries.proofs.candidates.atom_candidate.Goals as goal
 
 pub returns : goal.returns

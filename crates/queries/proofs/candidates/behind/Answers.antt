@@ -1,6 +1,4 @@
 -- An atom's place is its index among the atoms, a plan's among the plans.
-use borrow.Author.Rules.{rules}
-use native.Mathlib.Omega.{arith}
 use Rattle.queries.proofs.Halves.{atom_found, atom_nowhere, plan_found, plan_nowhere}
 use Rattle.queries.proofs.candidates.behind.Goals as goal
 

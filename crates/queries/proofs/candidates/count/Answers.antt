@@ -1,5 +1,4 @@
 -- The same tests in the same order.
-use borrow.Author.Rules.{rules}
 use Rattle.queries.specs.Answers.{count_of}
 use Rattle.queries.proofs.candidates.count.Goals as goal
 

@@ -1,7 +1,6 @@
 -- One test after the other.
 use mathlib.Core.Path.{sym, ap, ◌∙◌}
 use mathlib.Core.Bool.{Bool, not, ◌&&◌}
-use borrow.Author.Rules.{rules}
 use borrow.Author.Tests.{not-true, not-false}
 use Rattle.lists.proofs.Lists.{or_right}
 use Rattle.lists.proofs.Tests.{or_left}

@@ -1,5 +1,4 @@
 -- The justifications are numbered from 0, as many as the plan has.
-use borrow.Author.Rules.{rules}
 use Rattle.queries.proofs.candidates.justification_candidate.Goals as goal
 
 pub returns : goal.returns

@@ -1,7 +1,6 @@
 use borrow.Author.Rules.{rules}
-use Prim.Native.Nat.{◌+◌, ◌-◌, ◌≤◌}
+use Prim.Native.Nat.{◌+◌}
 use native.Mathlib.Omega.{arith}
-use Rattle.queries.specs.View.{Without}
 use Rattle.queries.proofs.Eights.{without_none, without_to}
 use Rattle.queries.proofs.candidates.pass_eights.Goals as goal
 

@@ -1,8 +1,5 @@
-use borrow.Author.Rules.{rules}
-use Prim.Native.Nat.{◌+◌, ◌-◌, ◌≤◌}
-use native.Mathlib.Omega.{arith}
+use Prim.Native.Nat.{◌-◌, ◌≤◌}
 use Rattle.queries.specs.View.{Without}
-use Rattle.queries.proofs.Eights.{without_none, without_to}
 use Rattle.queries.proofs.candidates.pass_eights.Given as goal
 
 abbrev pub invariant-loop-c : goal.invariant-loop-c

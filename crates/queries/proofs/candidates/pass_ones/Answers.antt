@@ -1,8 +1,6 @@
 use borrow.Author.Rules.{rules}
 use mathlib.Core.Path.{sym, ◌∙◌}
-use Prim.Native.Nat.{◌+◌, ◌-◌, ◌≤◌}
 use native.Mathlib.Omega.{arith}
-use Rattle.queries.specs.View.{Without}
 use Rattle.queries.proofs.Eights.{without_none, without_one}
 use Rattle.queries.proofs.candidates.pass_ones.Goals as goal
 

@@ -1,9 +1,5 @@
-use borrow.Author.Rules.{rules}
-use mathlib.Core.Path.{sym, ◌∙◌}
-use Prim.Native.Nat.{◌+◌, ◌-◌, ◌≤◌}
-use native.Mathlib.Omega.{arith}
+use Prim.Native.Nat.{◌-◌, ◌≤◌}
 use Rattle.queries.specs.View.{Without}
-use Rattle.queries.proofs.Eights.{without_none, without_one}
 use Rattle.queries.proofs.candidates.pass_ones.Given as goal
 
 abbrev pub invariant-loop-c : goal.invariant-loop-c

@@ -1,5 +1,4 @@
 -- The plan's columns.
-use borrow.Author.Rules.{rules}
 use Rattle.queries.proofs.candidates.plan_candidate.Goals as goal
 
 pub returns : goal.returns

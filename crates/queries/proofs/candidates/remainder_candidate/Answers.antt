@@ -1,5 +1,4 @@
 -- The plan's columns.
-use borrow.Author.Rules.{rules}
 use Rattle.queries.proofs.candidates.remainder_candidate.Goals as goal
 
 pub returns : goal.returns

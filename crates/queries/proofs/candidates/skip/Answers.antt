@@ -1,6 +1,5 @@
 use Rattle.queries.specs.Answers.{candidate_at}
 use Rattle.queries.proofs.Skips.{skip_as, skip_none}
-use borrow.Author.Rules.{rules}
 use Rattle.queries.proofs.candidates.skip.Goals as goal
 
 pub returns-then-i : goal.returns-then-i

@@ -1,4 +1,3 @@
-use borrow.Author.Rules.{rules}
 use mathlib.Core.Path.{sym, ◌∙◌}
 use Rattle.queries.proofs.Skips.{skip_none}
 use Rattle.queries.proofs.Eights.{skipped_chain}

@@ -1,12 +1,8 @@
 -- The loop's invariant: no candidate before c fits.
-use borrow.Author.Rules.{rules}
-use mathlib.Core.Path.{sym, ◌∙◌}
 use Prim.Native.Nat.{◌-◌, ◌/◌, ◌%◌}
-use native.Mathlib.Omega.{arith}
 use Rattle.state.specs.View.{plan_at}
 use Rattle.queries.specs.declared.Wanted.{Wanted}
 use Rattle.queries.specs.Answers.{justification_candidate, Skipped}
-use Rattle.queries.proofs.Skips.{other_plan, no_such_atom, other_atom, past_last, skip_none, skip_one, skip_to}
 use Rattle.queries.proofs.candidates.skip_justifications.Given as goal
 
 abbrev pub invariant-loop-c : goal.invariant-loop-c

@@ -1,11 +1,7 @@
 -- The loop's invariant: no candidate before c fits.
-use borrow.Author.Rules.{rules}
-use mathlib.Core.Path.{sym, ◌∙◌}
 use Prim.Native.Nat.{◌-◌}
-use native.Mathlib.Omega.{arith}
 use Rattle.state.specs.View.{plan_at}
 use Rattle.queries.specs.Answers.{plan_candidate, Skipped}
-use Rattle.queries.proofs.Skips.{missed_unlike, skip_none, skip_one}
 use Rattle.queries.proofs.candidates.skip_plans.Given as goal
 
 abbrev pub invariant-loop-c : goal.invariant-loop-c

@@ -2,7 +2,6 @@ use native.Mathlib.Omega.{arith}
 use Rattle.queries.proofs.Skips.{skip_none}
 use Rattle.queries.proofs.Leaps.{atoms_leapt, plans_leapt, justifications_leapt, atom_place}
 use Rattle.queries.proofs.Halves.{plan_place}
-use borrow.Author.Rules.{rules}
 use Rattle.queries.proofs.candidates.skip_wanted.Goals as goal
 
 pub leap-requires : goal.leap-requires

@@ -1,5 +1,4 @@
 -- The flags are one 16-bit number.
-use borrow.Author.Rules.{rules}
 use Rattle.queries.proofs.candidates.state_candidate.Goals as goal
 
 pub returns : goal.returns

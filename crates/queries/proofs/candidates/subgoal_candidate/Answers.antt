@@ -1,5 +1,4 @@
 -- A subgoal of 0 is none.
-use borrow.Author.Rules.{rules}
 use Rattle.queries.proofs.candidates.subgoal_candidate.Goals as goal
 
 pub returns : goal.returns
