@@ -22,16 +22,20 @@ returns-then-scalars-i c =
     let a = c.args in
     let t = c.stop.ensures in
     let s : c.stop.result.scalars ≡ a.scalars = ap (λ (x : Acted). x.scalars) t in
-    let g : c.stop.result.gone ≡ 0 = ap (λ (x : Acted). x.gone) t in (
-      stops_atom a.row a.values a.made (config_of a.words.now a.scalars) _ _ c.if-op-eq22.true (atom_lacks a.words.now a.scalars c.operand-id.result _ c.find_atom-i.result c.operand-id.ensures c.find_atom-i.ensures (omega arith)) (ap (config_of a.words.now) s) a.scalars t,
-      (λ z. subst (Workable a.words.now) (sym s) c.requires.0, omega arith),
-    )
+    let g : c.stop.result.gone ≡ 0 = ap (λ (x : Acted). x.gone) t in record {
+      acts = stops_atom a.row a.values a.made (config_of a.words.now a.scalars) _ _ c.if-op-eq22.true (atom_lacks a.words.now a.scalars c.operand-id.result _ c.find_atom-i.result c.operand-id.ensures c.find_atom-i.ensures (omega arith)) (ap (config_of a.words.now) s) a.scalars t;
+      workable = λ z. subst (Workable a.words.now) (sym s) c.requires.0;
+      few = omega arith;
+    }
 
 pub returns-then-op-eq22 : goal.returns-then-op-eq22
 returns-then-op-eq22 c =
     let a = c.args in
-    let r = c.delete in
-    (deletes_atom a.row a.values a.made (config_of a.words.now a.scalars) _ _ c.if-op-eq22.true (atom_lives a.words.now a.scalars c.operand-id.result _ c.find_atom-i.result c.operand-id.ensures c.find_atom-i.ensures (omega arith)) (subst (λ (i : ℕ). Deletes i a.values a.made (config_of a.words.now a.scalars) (config_of r.new.0 r.result.scalars) r.result) c.operand-id.ensures r.ensures.0), (λ z. r.ensures.1.0, r.ensures.1.1))
+    let r = c.delete in record {
+      acts = deletes_atom a.row a.values a.made (config_of a.words.now a.scalars) _ _ c.if-op-eq22.true (atom_lives a.words.now a.scalars c.operand-id.result _ c.find_atom-i.result c.operand-id.ensures c.find_atom-i.ensures (omega arith)) (subst (λ (i : ℕ). Deletes i a.values a.made (config_of a.words.now a.scalars) (config_of r.new.words r.result.scalars) r.result) c.operand-id.ensures r.ensures.deletes);
+      workable = λ z. r.ensures.workable;
+      few = r.ensures.few;
+    }
 
 pub find_plan-k-requires : goal.find_plan-k-requires
 find_plan-k-requires c = let a = c.args in let h = c.requires.0.whole in (h.long, h.few_plans, sound_plans_rise a.words.now a.scalars h.sound)
@@ -41,10 +45,11 @@ returns-then-scalars-k c =
     let a = c.args in
     let t = c.stop-then-scalars-k.ensures in
     let s : c.stop-then-scalars-k.result.scalars ≡ a.scalars = ap (λ (x : Acted). x.scalars) t in
-    let g : c.stop-then-scalars-k.result.gone ≡ 0 = ap (λ (x : Acted). x.gone) t in (
-      stops_plan a.row a.values a.made (config_of a.words.now a.scalars) _ _ c.if-op-eq21.false c.if-op-eq22.false (plan_lacks a.words.now a.scalars c.operand-id.result _ c.find_plan-k.result c.operand-id.ensures c.find_plan-k.ensures (omega arith)) (ap (config_of a.words.now) s) a.scalars t,
-      (λ z. subst (Workable a.words.now) (sym s) c.requires.0, omega arith),
-    )
+    let g : c.stop-then-scalars-k.result.gone ≡ 0 = ap (λ (x : Acted). x.gone) t in record {
+      acts = stops_plan a.row a.values a.made (config_of a.words.now a.scalars) _ _ c.if-op-eq21.false c.if-op-eq22.false (plan_lacks a.words.now a.scalars c.operand-id.result _ c.find_plan-k.result c.operand-id.ensures c.find_plan-k.ensures (omega arith)) (ap (config_of a.words.now) s) a.scalars t;
+      workable = λ z. subst (Workable a.words.now) (sym s) c.requires.0;
+      few = omega arith;
+    }
 
 pub set_flag-requires : goal.set_flag-requires
 set_flag-requires c = let a = c.args in can_flag a.words.now a.scalars a.row c.find_plan-k.result c.constant.result c.requires.0 c.requires.1 (inl c.if-op-eq23.true) (omega arith) c.constant.ensures
@@ -57,12 +62,13 @@ returns-then-op-eq23 c =
     let x = c.operand-id in
     let k = c.find_plan-k in
     let there = plan_there a.words.now a.scalars x.result (operand a.values a.row.i) k.result x.ensures k.ensures (omega arith) in
-    let e : config_of r.new.0 a.scalars ≡ change_plan (operand a.values a.row.i) (with_flags (with_flag (constant a.row.a))) (config_of a.words.now a.scalars)
-    = r.ensures ∙ (λ i. change_plan (there i) (with_flags (with_flag (c.constant.ensures i))) (config_of a.words.now a.scalars)) in (
-      sets_flag a.row a.values a.made (config_of a.words.now a.scalars) (config_of r.new.0 a.scalars) _ c.if-op-eq23.true
-          (plan_lives a.words.now a.scalars x.result (operand a.values a.row.i) k.result x.ensures k.ensures (omega arith)) e a.scalars refl,
-      (λ z. workable_flags a.words.now r.new.0 a.scalars p.0 (operand a.values a.row.i) (with_flag (constant a.row.a)) (let q = flag_number a.row p.1 (inl c.if-op-eq23.true) in λ n. with_flag_fits (constant a.row.a) n q.0 q.1) (r.auto.0 ∙ p.0.whole.long) e, omega arith),
-    )
+    let e : config_of r.new.words a.scalars ≡ change_plan (operand a.values a.row.i) (with_flags (with_flag (constant a.row.a))) (config_of a.words.now a.scalars)
+    = r.ensures ∙ (λ i. change_plan (there i) (with_flags (with_flag (c.constant.ensures i))) (config_of a.words.now a.scalars)) in record {
+      acts = sets_flag a.row a.values a.made (config_of a.words.now a.scalars) (config_of r.new.words a.scalars) _ c.if-op-eq23.true
+          (plan_lives a.words.now a.scalars x.result (operand a.values a.row.i) k.result x.ensures k.ensures (omega arith)) e a.scalars refl;
+      workable = λ z. workable_flags a.words.now r.new.words a.scalars p.0 (operand a.values a.row.i) (with_flag (constant a.row.a)) (let q = flag_number a.row p.1 (inl c.if-op-eq23.true) in λ n. with_flag_fits (constant a.row.a) n q.0 q.1) (r.auto.words ∙ p.0.whole.long) e;
+      few = omega arith;
+    }
 
 pub clear_flag-requires : goal.clear_flag-requires
 clear_flag-requires c = let a = c.args in can_flag a.words.now a.scalars a.row c.find_plan-k.result c.constant-then-op-eq24.result c.requires.0 c.requires.1 (inr c.if-op-eq24.true) (omega arith) c.constant-then-op-eq24.ensures
@@ -75,15 +81,19 @@ returns-then-op-eq24 c =
     let x = c.operand-id in
     let k = c.find_plan-k in
     let there = plan_there a.words.now a.scalars x.result (operand a.values a.row.i) k.result x.ensures k.ensures (omega arith) in
-    let e : config_of r.new.0 a.scalars ≡ change_plan (operand a.values a.row.i) (with_flags (without_flag (constant a.row.a))) (config_of a.words.now a.scalars)
-    = r.ensures ∙ (λ i. change_plan (there i) (with_flags (without_flag (c.constant-then-op-eq24.ensures i))) (config_of a.words.now a.scalars)) in (
-      clears_flag a.row a.values a.made (config_of a.words.now a.scalars) (config_of r.new.0 a.scalars) _ c.if-op-eq24.true
-          (plan_lives a.words.now a.scalars x.result (operand a.values a.row.i) k.result x.ensures k.ensures (omega arith)) e a.scalars refl,
-      (λ z. workable_flags a.words.now r.new.0 a.scalars p.0 (operand a.values a.row.i) (without_flag (constant a.row.a)) (λ n. without_flag_fits (constant a.row.a) n) (r.auto.0 ∙ p.0.whole.long) e, omega arith),
-    )
+    let e : config_of r.new.words a.scalars ≡ change_plan (operand a.values a.row.i) (with_flags (without_flag (constant a.row.a))) (config_of a.words.now a.scalars)
+    = r.ensures ∙ (λ i. change_plan (there i) (with_flags (without_flag (c.constant-then-op-eq24.ensures i))) (config_of a.words.now a.scalars)) in record {
+      acts = clears_flag a.row a.values a.made (config_of a.words.now a.scalars) (config_of r.new.words a.scalars) _ c.if-op-eq24.true
+          (plan_lives a.words.now a.scalars x.result (operand a.values a.row.i) k.result x.ensures k.ensures (omega arith)) e a.scalars refl;
+      workable = λ z. workable_flags a.words.now r.new.words a.scalars p.0 (operand a.values a.row.i) (without_flag (constant a.row.a)) (λ n. without_flag_fits (constant a.row.a) n) (r.auto.words ∙ p.0.whole.long) e;
+      few = omega arith;
+    }
 
 pub returns : goal.returns
 returns c =
     let a = c.args in
-    let r = c.delete-2 in
-    (deletes_plan a.row a.values a.made (config_of a.words.now a.scalars) _ _ c.if-op-eq21.false c.if-op-eq22.false c.if-op-eq23.false c.if-op-eq24.false (plan_lives a.words.now a.scalars c.operand-id.result _ c.find_plan-k.result c.operand-id.ensures c.find_plan-k.ensures (omega arith)) (subst (λ (i : ℕ). Deletes i a.values a.made (config_of a.words.now a.scalars) (config_of r.new.0 r.result.scalars) r.result) c.operand-id.ensures r.ensures.0), (λ z. r.ensures.1.0, r.ensures.1.1))
+    let r = c.delete-2 in record {
+      acts = deletes_plan a.row a.values a.made (config_of a.words.now a.scalars) _ _ c.if-op-eq21.false c.if-op-eq22.false c.if-op-eq23.false c.if-op-eq24.false (plan_lives a.words.now a.scalars c.operand-id.result _ c.find_plan-k.result c.operand-id.ensures c.find_plan-k.ensures (omega arith)) (subst (λ (i : ℕ). Deletes i a.values a.made (config_of a.words.now a.scalars) (config_of r.new.words r.result.scalars) r.result) c.operand-id.ensures r.ensures.deletes);
+      workable = λ z. r.ensures.workable;
+      few = r.ensures.few;
+    }

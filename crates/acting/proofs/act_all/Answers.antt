@@ -24,20 +24,19 @@ row_at-row-requires c = let a = c.args in row_inside a.program.now c.loop-k.k (o
 pub act-x-requires : goal.act-x-requires
 act-x-requires c = let a = c.args in (c.loop-k.invariant.0.workable, row_flag a.program.now a.words.now a.scalars a.rule a.values c.requires c.loop-k.k c.row_at-row.result c.row_at-row.ensures c.loop-k.invariant.1 (omega arith))
 
-pub shape_of-words-then-x-ne0 : goal.shape_of-words-then-x-ne0
-shape_of-words-then-x-ne0 c = c.act-x.auto.0 ∙ c.loop-k.invariant.0.workable.whole.long ∙ sym c.requires.well.long
-
 pub returns-then-x-ne0 : goal.returns-then-x-ne0
 unfolding meta_work
 returns-then-x-ne0 c =
-    let a = c.args in
-    (running_barred (meta_work a.program.now (config_of a.words.now a.scalars) a.rule a.values) a.program.now a.rule.set a.rule.number a.rule.end c.loop-k.k c.loop-k.words c.loop-k.s c.loop-k.v c.loop-k.made c.loop-k.gone c.loop-k.invariant.0 (omega arith) c.row_at-row.result c.row_at-row.ensures c.act-x.new.0 c.act-x.result c.act-x.ensures.0 c.if-x-ne0.true _ c.barred.result (ap (λ (r : Progress). r.number) c.barred.ensures), λ z. refusal_told c.barred.result a.scalars _ c.barred.ensures)
+    let a = c.args in record {
+      shown = running_barred (meta_work a.program.now (config_of a.words.now a.scalars) a.rule a.values) a.program.now a.rule.set a.rule.number a.rule.end c.loop-k.k c.loop-k.words c.loop-k.s c.loop-k.v c.loop-k.made c.loop-k.gone c.loop-k.invariant.0 (omega arith) c.row_at-row.result c.row_at-row.ensures c.act-x.new.words c.act-x.result c.act-x.ensures.acts c.if-x-ne0.true _ c.barred.result (ap (λ (r : Progress). r.number) c.barred.ensures);
+      told = λ z. refusal_told c.barred.result a.scalars _ c.barred.ensures;
+    }
 
 pub overflow_add-gone : goal.overflow_add-gone
 overflow_add-gone c =
     let a = c.args in
     let h = body_short a.program.now a.words.now a.scalars a.rule a.values c.requires in
-    let g = c.act-x.ensures.1.1 in
+    let g = c.act-x.ensures.few in
     omega (arith, c.loop-k.invariant.1, c.loop-k.invariant.2, c.loop-k.invariant.3)
 
 pub overflow_add-k : goal.overflow_add-k
@@ -49,27 +48,25 @@ pub loop-k-preserved : goal.loop-k-preserved
 unfolding meta_work
 loop-k-preserved c =
     let a = c.args in
-    let g = c.act-x.ensures.1.1 in (
-      running_next (meta_work a.program.now (config_of a.words.now a.scalars) a.rule a.values) a.program.now a.rule.set a.rule.number a.rule.end c.loop-k.k c.loop-k.words c.loop-k.s c.loop-k.v c.loop-k.made c.loop-k.gone c.loop-k.invariant.0 (omega (arith, c.loop-k-test.true)) c.row_at-row.result c.row_at-row.ensures c.act-x.new.0 c.act-x.result c.act-x.ensures.0 c.if-x-ne0.false c.if-x.false (c.act-x.ensures.1.0 c.if-x-ne0.false),
+    let g = c.act-x.ensures.few in (
+      running_next (meta_work a.program.now (config_of a.words.now a.scalars) a.rule a.values) a.program.now a.rule.set a.rule.number a.rule.end c.loop-k.k c.loop-k.words c.loop-k.s c.loop-k.v c.loop-k.made c.loop-k.gone c.loop-k.invariant.0 (omega (arith, c.loop-k-test.true)) c.row_at-row.result c.row_at-row.ensures c.act-x.new.words c.act-x.result c.act-x.ensures.acts c.if-x-ne0.false c.if-x.false (c.act-x.ensures.workable c.if-x-ne0.false),
       omega (arith, c.loop-k.invariant.1),
       omega (arith, c.loop-k-test.true),
       omega (arith, c.loop-k.invariant.1, c.loop-k.invariant.3),
     )
 
-pub shape_of-words-after-loop-k : goal.shape_of-words-after-loop-k
-shape_of-words-after-loop-k c = c.loop-k.invariant.0.workable.whole.long ∙ sym c.requires.well.long
-
 pub returns-after-loop-k : goal.returns-after-loop-k
 unfolding meta_work
 returns-after-loop-k c =
-    let a = c.args in
-    (running_end (meta_work a.program.now (config_of a.words.now a.scalars) a.rule a.values) a.program.now a.rule.set a.rule.number a.rule.end c.loop-k.k c.loop-k.words c.loop-k.s c.loop-k.v c.loop-k.made c.loop-k.gone c.loop-k.invariant.0 (omega arith), λ z. absurd (z refl))
-
-pub shape_of-words-then-x : goal.shape_of-words-then-x
-shape_of-words-then-x c = c.act-x.auto.0 ∙ c.loop-k.invariant.0.workable.whole.long ∙ sym c.requires.well.long
+    let a = c.args in record {
+      shown = running_end (meta_work a.program.now (config_of a.words.now a.scalars) a.rule a.values) a.program.now a.rule.set a.rule.number a.rule.end c.loop-k.k c.loop-k.words c.loop-k.s c.loop-k.v c.loop-k.made c.loop-k.gone c.loop-k.invariant.0 (omega arith);
+      told = λ z. absurd (z refl);
+    }
 
 pub returns-then-x : goal.returns-then-x
 unfolding meta_work
 returns-then-x c =
-    let a = c.args in
-    (running_stopped (meta_work a.program.now (config_of a.words.now a.scalars) a.rule a.values) a.program.now a.rule.set a.rule.number a.rule.end c.loop-k.k c.loop-k.words c.loop-k.s c.loop-k.v c.loop-k.made c.loop-k.gone c.loop-k.invariant.0 (omega arith) c.row_at-row.result c.row_at-row.ensures c.act-x.new.0 c.act-x.result c.act-x.ensures.0 c.if-x-ne0.false c.if-x.true, λ z. absurd (z refl))
+    let a = c.args in record {
+      shown = running_stopped (meta_work a.program.now (config_of a.words.now a.scalars) a.rule a.values) a.program.now a.rule.set a.rule.number a.rule.end c.loop-k.k c.loop-k.words c.loop-k.s c.loop-k.v c.loop-k.made c.loop-k.gone c.loop-k.invariant.0 (omega arith) c.row_at-row.result c.row_at-row.ensures c.act-x.new.words c.act-x.result c.act-x.ensures.acts c.if-x-ne0.false c.if-x.true;
+      told = λ z. absurd (z refl);
+    }

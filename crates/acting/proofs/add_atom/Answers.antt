@@ -10,10 +10,11 @@ use Rattle.acting.proofs.add_atom.Goals as goal
 pub returns-then-bar-ne0 : goal.returns-then-bar-ne0
 returns-then-bar-ne0 c =
     let a = c.args in
-    let p = c.requires in (
-      add_barred a.row a.values a.made (config_of a.words.now a.scalars) _ _ p.1 c.room_for_atom-bar.result (atoms_of_bar a.words.now a.scalars ∙ sym c.room_for_atom-bar.ensures) c.if-bar-ne0.true refl,
-      (λ z. absurd (c.if-bar-ne0.true z), omega arith),
-    )
+    let p = c.requires in record {
+      acts = add_barred a.row a.values a.made (config_of a.words.now a.scalars) _ _ p.1 c.room_for_atom-bar.result (atoms_of_bar a.words.now a.scalars ∙ sym c.room_for_atom-bar.ensures) c.if-bar-ne0.true refl;
+      workable = λ z. absurd (c.if-bar-ne0.true z);
+      few = omega arith;
+    }
 
 pub append_atom-left-requires : goal.append_atom-left-requires
 append_atom-left-requires c =
@@ -28,8 +29,9 @@ returns c =
     let p = c.requires in
     let r = c.append_atom-left in
     let bar = sym c.room_for_atom-bar.ensures ∙ c.if-bar-ne0.false in
-    let h = bar_free a.scalars.next a.scalars.atoms bar in (
-      atom_added a.row a.values a.made (config_of a.words.now a.scalars) (config_of r.new.0 r.result) p.1 (atoms_of_bar a.words.now a.scalars ∙ bar)
-          c.operand-a.result c.operand-b.result c.operand-a.ensures c.operand-b.ensures r.ensures.1 r.result c.with_value.result c.with_value.ensures,
-      (λ z. workable_added a.words.now r.new.0 a.scalars r.result p.0 _ _ _ (r.auto.0 ∙ p.0.whole.long) h.1 (omega (arith, h.0, p.0.next_fits)) r.ensures.0 r.ensures.1, omega arith),
-    )
+    let h = bar_free a.scalars.next a.scalars.atoms bar in record {
+      acts = atom_added a.row a.values a.made (config_of a.words.now a.scalars) (config_of r.new.words r.result) p.1 (atoms_of_bar a.words.now a.scalars ∙ bar)
+          c.operand-a.result c.operand-b.result c.operand-a.ensures c.operand-b.ensures r.ensures.made r.result c.with_value.result c.with_value.ensures;
+      workable = λ z. workable_added a.words.now r.new.words a.scalars r.result p.0 _ _ _ (r.auto.words ∙ p.0.whole.long) h.1 (omega (arith, h.0, p.0.next_fits)) r.ensures.counted r.ensures.made;
+      few = omega arith;
+    }

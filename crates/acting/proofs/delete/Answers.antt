@@ -12,7 +12,8 @@ returns c =
     let a = c.args in
     let w = c.requires in
     let r = c.remove-r in
-    let z = few_gone a.words.now r.new.0 a.scalars r.result.scalars w a.id r.ensures.1.0 in (
-      deleted a.id a.values a.made _ _ r.result.scalars r.result.gone r.ensures.1.0 r.ensures.1.1,
-      (workable_removed a.words.now r.new.0 a.scalars r.result.scalars w a.id r.ensures.0 r.ensures.1.0, (let e = r.ensures.1.1 in omega arith)),
-    )
+    let z = few_gone a.words.now r.new.words a.scalars r.result.scalars w a.id r.ensures.removed in record {
+      deletes = deleted a.id a.values a.made _ _ r.result.scalars r.result.gone r.ensures.removed r.ensures.counted;
+      workable = workable_removed a.words.now r.new.words a.scalars r.result.scalars w a.id r.ensures.sound r.ensures.removed;
+      few = (let e = r.ensures.counted in omega arith);
+    }

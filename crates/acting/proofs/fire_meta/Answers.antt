@@ -12,21 +12,27 @@ returns-then-scalars c =
     let a = c.args in
     let r = c.act_all in
     let t = (and-eq-true_iff (leb a.scalars.next 65528) (leb a.scalars.atoms 248)).0 c.if-scalars.true in
-    let z = no_limit a.program.now a.words.now r.new.1.0 a.scalars a.rule a.values r.result c.requires (leb-true a.scalars.next 65528 t.0) (leb-true a.scalars.atoms 248 t.1) r.ensures.0 in
-    (answers_done a.words.now a.scalars r.result r.new.1.0 _ z r.ensures.0, λ n. absurd (n z))
+    let z = no_limit a.program.now a.words.now r.new.words a.scalars a.rule a.values r.result c.requires (leb-true a.scalars.next 65528 t.0) (leb-true a.scalars.atoms 248 t.1) r.ensures.shown in record {
+      result_after = answers_done a.words.now a.scalars r.result r.new.words _ z r.ensures.shown;
+      untouched = λ n. absurd (n z);
+    }
 
 pub copy-requires-then-r-ne0 : goal.copy-requires-then-r-ne0
-copy-requires-then-r-ne0 c = ap length c.copy.ensures ∙ sym c.act_all-r.auto.1.0
+copy-requires-then-r-ne0 c = ap length c.copy.ensures ∙ sym c.act_all-r.auto.words
 
 pub returns-then-r-ne0 : goal.returns-then-r-ne0
 returns-then-r-ne0 c =
     let a = c.args in
     let r = c.act_all-r in
-    let w = c.copy-then-r-ne0.ensures ∙ c.copy.ensures in
-    (answers_refused a.words.now a.scalars r.result c.copy-then-r-ne0.new.1.0 r.new.1.0 _ c.if-r-ne0.true r.ensures.0 (r.ensures.1 c.if-r-ne0.true) w, λ n. w)
+    let w = c.copy-then-r-ne0.ensures ∙ c.copy.ensures in record {
+      result_after = answers_refused a.words.now a.scalars r.result c.copy-then-r-ne0.new.to r.new.words _ c.if-r-ne0.true r.ensures.shown (r.ensures.told c.if-r-ne0.true) w;
+      untouched = λ n. w;
+    }
 
 pub returns-else-r-ne0 : goal.returns-else-r-ne0
 returns-else-r-ne0 c =
     let a = c.args in
-    let r = c.act_all-r in
-    (answers_done a.words.now a.scalars r.result r.new.1.0 _ c.if-r-ne0.false r.ensures.0, λ n. absurd (n c.if-r-ne0.false))
+    let r = c.act_all-r in record {
+      result_after = answers_done a.words.now a.scalars r.result r.new.words _ c.if-r-ne0.false r.ensures.shown;
+      untouched = λ n. absurd (n c.if-r-ne0.false);
+    }

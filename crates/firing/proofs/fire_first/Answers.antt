@@ -26,8 +26,10 @@ overflow_add-scalars c =
 pub returns-then-not-x : goal.returns-then-not-x
 returns-then-not-x c =
     let a = c.args in
-    let x = c.choose-x in
-    (moved a.program.now a.words.now a.scalars x.result x.ensures.0 (not-true _ c.if-not-x.true) _ c.with_phase.ensures, λ z. refl)
+    let x = c.choose-x in record {
+      result_after = moved a.program.now a.words.now a.scalars x.result x.ensures.is (not-true _ c.if-not-x.true) _ c.with_phase.ensures;
+      untouched = λ z. refl;
+    }
 
 pub fire_object-requires : goal.fire_object-requires
 fire_object-requires c =
@@ -35,15 +37,17 @@ fire_object-requires c =
     let p = c.requires in
     let x = c.choose-x in
     let f = not-false _ c.if-not-x.false in
-    raises a.program.now a.words.now a.scalars x.result x.ensures.0 f (x.ensures.1 f) p.0 p.1 c.if-rule.true
+    raises a.program.now a.words.now a.scalars x.result x.ensures.is f (x.ensures.chosen f) p.0 p.1 c.if-rule.true
 
 pub returns-then-rule : goal.returns-then-rule
 returns-then-rule c =
     let a = c.args in
     let x = c.choose-x in
     let f = not-false _ c.if-not-x.false in
-    let r = c.fire_object in
-    (r.ensures.0 ∙ ap (answer_of (config_of a.words.now a.scalars)) (object_fires a.program.now a.words.now a.scalars x.result x.ensures.0 f (x.ensures.1 f) c.if-rule.true), r.ensures.1)
+    let r = c.fire_object in record {
+      result_after = r.ensures.result_after ∙ ap (answer_of (config_of a.words.now a.scalars)) (object_fires a.program.now a.words.now a.scalars x.result x.ensures.is f (x.ensures.chosen f) c.if-rule.true);
+      untouched = r.ensures.untouched;
+    }
 
 pub fire_meta-requires : goal.fire_meta-requires
 fire_meta-requires c =
@@ -51,12 +55,14 @@ fire_meta-requires c =
     let p = c.requires in
     let x = c.choose-x in
     let f = not-false _ c.if-not-x.false in
-    acts a.program.now a.words.now a.scalars x.result x.ensures.0 f (x.ensures.1 f) p.0 p.1 c.if-rule.false
+    acts a.program.now a.words.now a.scalars x.result x.ensures.is f (x.ensures.chosen f) p.0 p.1 c.if-rule.false
 
 pub returns : goal.returns
 returns c =
     let a = c.args in
     let x = c.choose-x in
     let f = not-false _ c.if-not-x.false in
-    let r = c.fire_meta in
-    (r.ensures.0 ∙ ap (answer_of (config_of a.words.now a.scalars)) (meta_fires a.program.now a.words.now a.scalars x.result x.ensures.0 f (x.ensures.1 f) c.if-rule.false), r.ensures.1)
+    let r = c.fire_meta in record {
+      result_after = r.ensures.result_after ∙ ap (answer_of (config_of a.words.now a.scalars)) (meta_fires a.program.now a.words.now a.scalars x.result x.ensures.is f (x.ensures.chosen f) c.if-rule.false);
+      untouched = r.ensures.untouched;
+    }

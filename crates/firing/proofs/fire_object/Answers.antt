@@ -7,8 +7,10 @@ use Rattle.firing.proofs.fire_object.Goals as goal
 
 pub returns-then-bar-ne0 : goal.returns-then-bar-ne0
 returns-then-bar-ne0 c =
-    let a = c.args in
-    (raised_barred a.words.now a.scalars a.x _ (sym c.room_for_plan-bar.ensures) c.if-bar-ne0.true _ c.barred.ensures, λ z. refl)
+    let a = c.args in record {
+      result_after = raised_barred a.words.now a.scalars a.x _ (sym c.room_for_plan-bar.ensures) c.if-bar-ne0.true _ c.barred.ensures;
+      untouched = λ z. refl;
+    }
 
 pub append_plan-made-requires : goal.append_plan-made-requires
 append_plan-made-requires c =
@@ -22,7 +24,7 @@ returns c =
     let a = c.args in
     let w = c.requires in
     let l = c.rising_set-l in
-    let p = c.append_plan-made in (
-      raised_done a.words.now a.scalars a.x (sym c.room_for_plan-bar.ensures ∙ c.if-bar-ne0.false) p.new.0 p.result _ (ids_raised a.words.now a.scalars a.x w l.result l.ensures.1.1 l.ensures.0) p.ensures.1,
-      λ z. absurd (z refl),
-    )
+    let p = c.append_plan-made in record {
+      result_after = raised_done a.words.now a.scalars a.x (sym c.room_for_plan-bar.ensures ∙ c.if-bar-ne0.false) p.new.words p.result _ (ids_raised a.words.now a.scalars a.x w l.result l.ensures.padded l.ensures.is) p.ensures.made;
+      untouched = λ z. absurd (z refl);
+    }

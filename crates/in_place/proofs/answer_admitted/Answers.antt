@@ -15,19 +15,29 @@ pub returns-then-id-eq0 : goal.returns-then-id-eq0
 unfolding work
 returns-then-id-eq0 c =
     let a = c.args in
+    let all =
     call_stays a.program.now a.words.now a.scalars c.requires _ refl
     (to_answer (given_rows a.program.now) a.n) refl refl
     (refuses a.words.now _ a.scalars _ 6 _ refl c.refuse.ensures
-    (answer_6 a.program.now (config_of a.words.now a.scalars) a.n c.requires.well c.if-id-eq0.true))
+    (answer_6 a.program.now (config_of a.words.now a.scalars) a.n c.requires.well c.if-id-eq0.true)) in record {
+      result_after = all.0;
+      untouched = all.1.0;
+      stays = all.1.1;
+    }
 
 pub returns-then-n-gt1 : goal.returns-then-n-gt1
 unfolding work
 returns-then-n-gt1 c =
     let a = c.args in
+    let all =
     call_stays a.program.now a.words.now a.scalars c.requires _ refl
     (to_answer (given_rows a.program.now) a.n) refl refl
     (refuses a.words.now _ a.scalars _ 7 _ refl c.refuse-then-n-gt1.ensures
-    (answer_7 a.program.now (config_of a.words.now a.scalars) a.n c.requires.well c.if-id-eq0.false c.if-n-gt1.true))
+    (answer_7 a.program.now (config_of a.words.now a.scalars) a.n c.requires.well c.if-id-eq0.false c.if-n-gt1.true)) in record {
+      result_after = all.0;
+      untouched = all.1.0;
+      stays = all.1.1;
+    }
 
 pub find_plan-k-requires : goal.find_plan-k-requires
 find_plan-k-requires c =
@@ -53,12 +63,17 @@ returns-then-n-eq1 c =
     let a = c.args in
     let left = waiting_succeed a.program.now a.words.now a.scalars c.requires.sized c.requires.well c.if-id-eq0.false
     c.find_plan-k.result c.find_plan-k.ensures c.with_waiting-idle.result c.with_waiting-idle.ensures in
-    call_stays a.program.now a.words.now a.scalars c.requires _ c.succeed.auto.0
+    let all =
+    call_stays a.program.now a.words.now a.scalars c.requires _ c.succeed.auto.words
     (to_answer (given_rows a.program.now) a.n) refl refl (
       answer_yes a.program.now (config_of a.words.now a.scalars) a.n c.requires.well c.if-id-eq0.false
           c.if-n-eq1.true _ (c.succeed.ensures ∙ left),
       λ z. absurd (z refl),
-    )
+    ) in record {
+      result_after = all.0;
+      untouched = all.1.0;
+      stays = all.1.1;
+    }
 
 pub returns-else-n-eq1 : goal.returns-else-n-eq1
 unfolding work
@@ -66,9 +81,14 @@ returns-else-n-eq1 c =
     let a = c.args in
     let left = waiting_fail a.program.now a.words.now a.scalars c.requires.sized c.requires.well c.if-id-eq0.false
     c.find_plan-k.result c.find_plan-k.ensures c.with_waiting-idle.result c.with_waiting-idle.ensures in
-    call_stays a.program.now a.words.now a.scalars c.requires _ c.fail.auto.0
+    let all =
+    call_stays a.program.now a.words.now a.scalars c.requires _ c.fail.auto.words
     (to_answer (given_rows a.program.now) a.n) refl refl (
       answer_no a.program.now (config_of a.words.now a.scalars) a.n c.requires.well c.if-id-eq0.false
           c.if-n-eq1.false c.if-n-gt1.false _ (c.fail.ensures ∙ left),
       λ z. absurd (z refl),
-    )
+    ) in record {
+      result_after = all.0;
+      untouched = all.1.0;
+      stays = all.1.1;
+    }

@@ -1,6 +1,5 @@
 -- The test of refusal 1, then the work on what is well formed.
 use mathlib.Core.Path.{refl, sym, ◌∙◌}
-use borrow.Author.Tests.{not-true, not-false}
 use Rattle.model.specs.Claims.{work}
 use Rattle.state.specs.View.{config_of}
 use Rattle.in_place.proofs.Outcomes.{refuses}
@@ -12,14 +11,21 @@ pub returns-then-not-admits : goal.returns-then-not-admits
 unfolding work
 returns-then-not-admits c =
     let a = c.args in
-    let no = sym c.admits.ensures ∙ not-true _ c.if-not-admits.true in
+    let no = sym c.admits.ensures ∙ c.if-not-admits.true in
+    let all =
     refuses a.words.now _ a.scalars _ 1 _ refl c.refuse.ensures
-    (delete_1 a.program.now (config_of a.words.now a.scalars) a.id no)
+    (delete_1 a.program.now (config_of a.words.now a.scalars) a.id no) in record {
+      result_after = all.0;
+      untouched = all.1;
+    }
 
 pub delete_admitted-requires : goal.delete_admitted-requires
 delete_admitted-requires c =
-    let well = sym c.admits.ensures ∙ not-false _ c.if-not-admits.false in
+    let well = sym c.admits.ensures ∙ c.if-not-admits.false in
     record { sized = c.requires; well = well }
 
 pub returns : goal.returns
-returns c = let told = c.delete_admitted.ensures in (told.0, told.1.0)
+returns c = let told = c.delete_admitted.ensures in record {
+      result_after = told.result_after;
+      untouched = told.untouched;
+    }

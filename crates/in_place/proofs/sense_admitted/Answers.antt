@@ -1,7 +1,6 @@
 -- Each way of sense, with what is well formed kept.
 use mathlib.Core.Path.{refl, sym, ap, ◌∙◌}
 use native.Mathlib.Omega.{arith}
-use borrow.Author.Tests.{not-true, not-false}
 use Rattle.model.specs.Claims.{to_sense, work}
 use Rattle.state.specs.View.{config_of}
 use Rattle.in_place.specs.Given.{given_rows, readings_of}
@@ -16,51 +15,76 @@ pub returns-then-scalars-ne0 : goal.returns-then-scalars-ne0
 unfolding work
 returns-then-scalars-ne0 c =
     let a = c.args in
+    let all =
     call_stays a.program.now a.words.now a.scalars c.requires _ refl
     (to_sense (given_rows a.program.now) (readings_of a.rows.now)) refl refl
     (refuses a.words.now _ a.scalars _ 6 _ refl c.refuse.ensures
-    (sense_6_phase a.program.now (config_of a.words.now a.scalars) a.rows.now c.requires.well c.if-scalars-ne0.true))
+    (sense_6_phase a.program.now (config_of a.words.now a.scalars) a.rows.now c.requires.well c.if-scalars-ne0.true)) in record {
+      result_after = all.0;
+      untouched = all.1.0;
+      stays = all.1.1;
+    }
 
 pub returns-then-scalars-ne0-2 : goal.returns-then-scalars-ne0-2
 unfolding work
 returns-then-scalars-ne0-2 c =
     let a = c.args in
+    let all =
     call_stays a.program.now a.words.now a.scalars c.requires _ refl
     (to_sense (given_rows a.program.now) (readings_of a.rows.now)) refl refl
     (refuses a.words.now _ a.scalars _ 6 _ refl c.refuse-then-scalars-ne0-2.ensures
-    (sense_6_waiting a.program.now (config_of a.words.now a.scalars) a.rows.now c.requires.well c.if-scalars-ne0-2.true))
+    (sense_6_waiting a.program.now (config_of a.words.now a.scalars) a.rows.now c.requires.well c.if-scalars-ne0-2.true)) in record {
+      result_after = all.0;
+      untouched = all.1.0;
+      stays = all.1.1;
+    }
 
 pub returns-then-rows-gt256 : goal.returns-then-rows-gt256
 unfolding work
 returns-then-rows-gt256 c =
     let a = c.args in
+    let all =
     call_stays a.program.now a.words.now a.scalars c.requires _ refl
     (to_sense (given_rows a.program.now) (readings_of a.rows.now)) refl refl
     (refuses a.words.now _ a.scalars _ 7 _ refl c.refuse-then-rows-gt256.ensures
     (sense_7_many a.program.now (config_of a.words.now a.scalars) a.rows.now c.requires.well
-    c.if-scalars-ne0.false c.if-scalars-ne0-2.false c.if-rows-gt256.true))
+    c.if-scalars-ne0.false c.if-scalars-ne0-2.false c.if-rows-gt256.true)) in record {
+      result_after = all.0;
+      untouched = all.1.0;
+      stays = all.1.1;
+    }
 
 pub returns-then-rows-ne0 : goal.returns-then-rows-ne0
 unfolding work
 returns-then-rows-ne0 c =
     let a = c.args in
+    let all =
     call_stays a.program.now a.words.now a.scalars c.requires _ refl
     (to_sense (given_rows a.program.now) (readings_of a.rows.now)) refl refl
     (refuses a.words.now _ a.scalars _ 7 _ refl c.refuse-then-rows-ne0.ensures
     (sense_7_torn a.program.now (config_of a.words.now a.scalars) a.rows.now c.requires.well
-    c.if-scalars-ne0.false c.if-scalars-ne0-2.false c.if-rows-ne0.true))
+    c.if-scalars-ne0.false c.if-scalars-ne0-2.false c.if-rows-ne0.true)) in record {
+      result_after = all.0;
+      untouched = all.1.0;
+      stays = all.1.1;
+    }
 
 pub returns-then-not-rows_in_range : goal.returns-then-not-rows_in_range
 unfolding work
 returns-then-not-rows_in_range c =
     let a = c.args in
     let many = c.if-rows-gt256.false in
-    let out = sym c.rows_in_range.ensures ∙ not-true _ c.if-not-rows_in_range.true in
+    let out = sym c.rows_in_range.ensures ∙ c.if-not-rows_in_range.true in
+    let all =
     call_stays a.program.now a.words.now a.scalars c.requires _ refl
     (to_sense (given_rows a.program.now) (readings_of a.rows.now)) refl refl
     (refuses a.words.now _ a.scalars _ 7 _ refl c.refuse-then-not-rows_in_range.ensures
     (sense_7_range a.program.now (config_of a.words.now a.scalars) a.rows.now c.requires.well
-    c.if-scalars-ne0.false c.if-scalars-ne0-2.false (omega arith) c.if-rows-ne0.false out))
+    c.if-scalars-ne0.false c.if-scalars-ne0-2.false (omega arith) c.if-rows-ne0.false out)) in record {
+      result_after = all.0;
+      untouched = all.1.0;
+      stays = all.1.1;
+    }
 
 pub sense_or_restore-w-requires : goal.sense_or_restore-w-requires
 sense_or_restore-w-requires c =
@@ -74,22 +98,27 @@ returns-then-w-ne0 c =
     let a = c.args in
     let w = c.sense_or_restore-w in
     let many = c.if-rows-gt256.false in
-    let right = sym c.rows_in_range.ensures ∙ not-false _ c.if-not-rows_in_range.false in
+    let right = sym c.rows_in_range.ensures ∙ c.if-not-rows_in_range.false in
     let no = c.if-w-ne0.true in
-    call_stays a.program.now a.words.now a.scalars c.requires _ w.auto.1.0
+    let all =
+    call_stays a.program.now a.words.now a.scalars c.requires _ w.auto.words
     (to_sense (given_rows a.program.now) (readings_of a.rows.now)) refl refl
-    (refuses a.words.now _ a.scalars _ _ _ (w.ensures.1 no) c.refuse-then-w-ne0.ensures
+    (refuses a.words.now _ a.scalars _ _ _ (w.ensures.untouched no) c.refuse-then-w-ne0.ensures
     (sense_barred a.program.now (config_of a.words.now a.scalars) a.rows.now c.requires.well
-    c.if-scalars-ne0.false c.if-scalars-ne0-2.false (omega arith) c.if-rows-ne0.false right _ _ _ no w.ensures.0))
+    c.if-scalars-ne0.false c.if-scalars-ne0-2.false (omega arith) c.if-rows-ne0.false right _ _ _ no w.ensures.senses_rows)) in record {
+      result_after = all.0;
+      untouched = all.1.0;
+      stays = all.1.1;
+    }
 
 pub overflow_sub-made : goal.overflow_sub-made
 overflow_sub-made c =
     let a = c.args in
     let w = c.sense_or_restore-w in
     let many = c.if-rows-gt256.false in
-    let right = sym c.rows_in_range.ensures ∙ not-false _ c.if-not-rows_in_range.false in
+    let right = sym c.rows_in_range.ensures ∙ c.if-not-rows_in_range.false in
     let h = sense_rises a.program.now (config_of a.words.now a.scalars) a.rows.now c.requires.well
-    c.if-scalars-ne0.false c.if-scalars-ne0-2.false (omega arith) c.if-rows-ne0.false right _ _ _ c.if-w-ne0.false w.ensures.0 in
+    c.if-scalars-ne0.false c.if-scalars-ne0-2.false (omega arith) c.if-rows-ne0.false right _ _ _ c.if-w-ne0.false w.ensures.senses_rows in
     omega arith
 
 pub returns : goal.returns
@@ -98,12 +127,17 @@ returns c =
     let a = c.args in
     let w = c.sense_or_restore-w in
     let many = c.if-rows-gt256.false in
-    let right = sym c.rows_in_range.ensures ∙ not-false _ c.if-not-rows_in_range.false in
+    let right = sym c.rows_in_range.ensures ∙ c.if-not-rows_in_range.false in
     let taken = c.if-w-ne0.false in
-    let left = ap (config_of w.new.1.0) c.with_phase.ensures in
-    call_stays a.program.now a.words.now a.scalars c.requires _ w.auto.1.0
+    let left = ap (config_of w.new.words) c.with_phase.ensures in
+    let all =
+    call_stays a.program.now a.words.now a.scalars c.requires _ w.auto.words
     (to_sense (given_rows a.program.now) (readings_of a.rows.now)) refl refl (
       sense_done a.program.now (config_of a.words.now a.scalars) a.rows.now c.requires.well
-          c.if-scalars-ne0.false c.if-scalars-ne0-2.false (omega arith) c.if-rows-ne0.false right _ _ _ _ taken w.ensures.0 refl _ left,
+          c.if-scalars-ne0.false c.if-scalars-ne0-2.false (omega arith) c.if-rows-ne0.false right _ _ _ _ taken w.ensures.senses_rows refl _ left,
       λ z. absurd (z refl),
-    )
+    ) in record {
+      result_after = all.0;
+      untouched = all.1.0;
+      stays = all.1.1;
+    }

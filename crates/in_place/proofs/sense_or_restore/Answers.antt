@@ -18,17 +18,24 @@ returns-then-scalars-n c =
     let h = leb-true a.scalars.next (65536 - n) t.0 in
     let k = leb-true a.scalars.atoms (256 - n) t.1 in
     let p = c.requires.1 in
-    let z = no_limit a.program.now a.words.now a.rows.now a.scalars r.result.number r.new.1.0 r.result.scalars r.result.gone (omega arith) (omega arith) r.ensures.0 in
-    (r.ensures.0, λ m. absurd (m z))
+    let z = no_limit a.program.now a.words.now a.rows.now a.scalars r.result.number r.new.words r.result.scalars r.result.gone (omega arith) (omega arith) r.ensures.senses_rows in record {
+      senses_rows = r.ensures.senses_rows;
+      untouched = λ m. absurd (m z);
+    }
 
 pub copy-requires-then-w-ne0 : goal.copy-requires-then-w-ne0
-copy-requires-then-w-ne0 c = ap length c.copy.ensures ∙ sym c.sense_rows-w.auto.1.0
+copy-requires-then-w-ne0 c = ap length c.copy.ensures ∙ sym c.sense_rows-w.auto.words
 
 pub returns-then-w-ne0 : goal.returns-then-w-ne0
 returns-then-w-ne0 c =
     let r = c.sense_rows-w in
-    let w = c.copy-then-w-ne0.ensures ∙ c.copy.ensures in
-    (still_refused _ _ _ _ _ _ _ c.if-w-ne0.true r.ensures.0, λ m. w)
+    let w = c.copy-then-w-ne0.ensures ∙ c.copy.ensures in record {
+      senses_rows = still_refused _ _ _ _ _ _ _ c.if-w-ne0.true r.ensures.senses_rows;
+      untouched = λ m. w;
+    }
 
 pub returns-else-w-ne0 : goal.returns-else-w-ne0
-returns-else-w-ne0 c = (c.sense_rows-w.ensures.0, λ m. absurd (m c.if-w-ne0.false))
+returns-else-w-ne0 c = record {
+      senses_rows = c.sense_rows-w.ensures.senses_rows;
+      untouched = λ m. absurd (m c.if-w-ne0.false);
+    }

@@ -4,4 +4,4 @@ use borrow.Author.Rules.{rules}
 use Rattle.interpreter.proofs.stepped.Goals as goal
 
 pub returns : goal.returns
-returns c = ap call_answer c.step-s.ensures.0
+returns c = ap call_answer c.step-s.ensures.result_value

@@ -13,4 +13,4 @@ pub append_atom-requires : goal.append_atom-requires
 append_atom-requires c = let room = atom_room c.requires c.if-r-ne0.false c.if-r-ne41.false in (c.requires.long, room.0, room.1)
 
 pub returns : goal.returns
-returns c = atom_taken c.requires c.if-r-ne0.false c.if-r-ne41.false c.constant.ensures c.constant-2.ensures c.append_atom.ensures.0 c.append_atom.ensures.1
+returns c = atom_taken c.requires c.if-r-ne0.false c.if-r-ne41.false c.constant.ensures c.constant-2.ensures c.append_atom.ensures.counted c.append_atom.ensures.made

@@ -8,5 +8,5 @@ use Rattle.printed_run.proofs.print_first.Goals as goal
 pub slice_bounds-print_from-end : goal.slice_bounds-print_from-end
 slice_bounds-print_from-end c =
     let a = c.args in
-    let l : length a.t1 ≡ 4096 = search rules in
-    sym (length-take-le a.n a.t1 (omega (arith, c.requires.0, l)))
+    let l : length a.rows ≡ 4096 = search rules in
+    sym (length-take-le a.n a.rows (omega (arith, c.requires.0, l)))

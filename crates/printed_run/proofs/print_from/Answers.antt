@@ -12,8 +12,12 @@ returns-then-s-ne0 c =
     let a = c.args in
     let q = c.requires in
     let s = c.sense-s in
-    let e = sense_refused a.program.now (rows_of a.program.now) q.0 a.config q.1 s.result s.ensures.0 c.if-s-ne0.true in
-    shown _ _ _ _ _ e c.put_refusal.ensures.0 c.put_refusal.ensures.1
+    let e = sense_refused a.program.now (rows_of a.program.now) q.0 a.config q.1 s.result s.ensures.result_value c.if-s-ne0.true in
+    let all =
+    shown _ _ _ _ _ e c.put_refusal.ensures.out_after c.put_refusal.ensures.length in record {
+      out_after = all.0;
+      length = all.1;
+    }
 
 pub returns-then-r-ne0 : goal.returns-then-r-ne0
 unfolding run_text
@@ -22,8 +26,12 @@ returns-then-r-ne0 c =
     let q = c.requires in
     let s = c.sense-s in
     let r = c.run-r in
-    let e = sense_done a.program.now (rows_of a.program.now) q.0 a.config q.1 s.result s.ensures.0 c.if-s-ne0.false ∙ run_stopped a.program.now (rows_of a.program.now) q.0 (conf s.result.config) r.result r.ensures.0 c.if-r-ne0.true in
-    shown _ _ _ _ _ e c.put_refusal-then-r-ne0.ensures.0 c.put_refusal-then-r-ne0.ensures.1
+    let e = sense_done a.program.now (rows_of a.program.now) q.0 a.config q.1 s.result s.ensures.result_value c.if-s-ne0.false ∙ run_stopped a.program.now (rows_of a.program.now) q.0 (conf s.result.config) r.result r.ensures.result_value c.if-r-ne0.true in
+    let all =
+    shown _ _ _ _ _ e c.put_refusal-then-r-ne0.ensures.out_after c.put_refusal-then-r-ne0.ensures.length in record {
+      out_after = all.0;
+      length = all.1;
+    }
 
 pub print_config-requires : goal.print_config-requires
 print_config-requires c =
@@ -31,7 +39,7 @@ print_config-requires c =
     let q = c.requires in
     let s = c.sense-s in
     let r = c.run-r in
-    run_well a.program.now (rows_of a.program.now) q.0 (conf s.result.config) r.result r.ensures.0 c.if-r-ne0.false
+    run_well a.program.now (rows_of a.program.now) q.0 (conf s.result.config) r.result r.ensures.result_value c.if-r-ne0.false
 
 pub returns : goal.returns
 unfolding run_text
@@ -40,5 +48,9 @@ returns c =
     let q = c.requires in
     let s = c.sense-s in
     let r = c.run-r in
-    let e = sense_done a.program.now (rows_of a.program.now) q.0 a.config q.1 s.result s.ensures.0 c.if-s-ne0.false ∙ run_listed a.program.now (rows_of a.program.now) q.0 (conf s.result.config) r.result r.ensures.0 c.if-r-ne0.false in
-    shown _ _ _ _ _ e c.print_config.ensures.0 c.print_config.ensures.1
+    let e = sense_done a.program.now (rows_of a.program.now) q.0 a.config q.1 s.result s.ensures.result_value c.if-s-ne0.false ∙ run_listed a.program.now (rows_of a.program.now) q.0 (conf s.result.config) r.result r.ensures.result_value c.if-r-ne0.false in
+    let all =
+    shown _ _ _ _ _ e c.print_config.ensures.out_after c.print_config.ensures.length in record {
+      out_after = all.0;
+      length = all.1;
+    }

@@ -19,12 +19,16 @@ pub returns-then-scalars-sets_of : goal.returns-then-scalars-sets_of
 returns-then-scalars-sets_of c =
     let a = c.args in
     let r = c.fire_first in
-    let h : a.scalars.phase ≤ sets (rows_of a.program.now) = let e = c.sets_of.ensures in omega (arith, c.if-scalars-sets_of.true) in
-    (r.ensures.0 ∙ ap (answer_of (config_of a.words.now a.scalars)) (sym (fires_step a.program.now a.words.now a.scalars c.requires h)), r.ensures.1)
+    let h : a.scalars.phase ≤ sets (rows_of a.program.now) = let e = c.sets_of.ensures in omega (arith, c.if-scalars-sets_of.true) in record {
+      result_after = r.ensures.result_after ∙ ap (answer_of (config_of a.words.now a.scalars)) (sym (fires_step a.program.now a.words.now a.scalars c.requires h));
+      untouched = r.ensures.untouched;
+    }
 
 pub returns : goal.returns
 returns c =
     let a = c.args in
     let r = c.execute in
-    let h : sets (rows_of a.program.now) < a.scalars.phase = let e = c.sets_of.ensures in omega (arith, c.if-scalars-sets_of.false) in
-    (r.ensures.0 ∙ ap (answer_of (config_of a.words.now a.scalars)) (sym (executes_step a.program.now a.words.now a.scalars c.requires h)), r.ensures.1)
+    let h : sets (rows_of a.program.now) < a.scalars.phase = let e = c.sets_of.ensures in omega (arith, c.if-scalars-sets_of.false) in record {
+      result_after = r.ensures.result_after ∙ ap (answer_of (config_of a.words.now a.scalars)) (sym (executes_step a.program.now a.words.now a.scalars c.requires h));
+      untouched = r.ensures.untouched;
+    }

@@ -19,26 +19,21 @@ loop-steps-init c =
 pub advance-p-requires : goal.advance-p-requires
 advance-p-requires c = c.loop-steps.invariant.0.turn
 
-pub shape_of-words-then-p-ne0 : goal.shape_of-words-then-p-ne0
-shape_of-words-then-p-ne0 c =
-    let v = c.loop-steps in
-    c.advance-p.auto.1.0 ∙ v.invariant.0.turn.well.long ∙ sym v.invariant.3
-
 pub returns-then-p-ne0 : goal.returns-then-p-ne0
 returns-then-p-ne0 c =
     let a = c.args in
     let v = c.loop-steps in
     let p = c.advance-p in
-    ap (λ (l : List ℕ). record { config = config_of l v.s; steps = v.steps; made = v.made; gone = v.gone; stop = next_refused p.result.number }) (p.ensures.1 c.if-p-ne0.true)
-    ∙ at_refusal a.program.now a.words.now a.scalars a.limit v.words v.s v.steps v.made v.gone v.invariant.0 c.loop-steps-test.true p.result.number (was_refused a.program.now v.words p.new.1.0 v.s p.result p.ensures.0 c.if-p-ne0.true)
+    ap (λ (l : List ℕ). record { config = config_of l v.s; steps = v.steps; made = v.made; gone = v.gone; stop = next_refused p.result.number }) (p.ensures.untouched c.if-p-ne0.true)
+    ∙ at_refusal a.program.now a.words.now a.scalars a.limit v.words v.s v.steps v.made v.gone v.invariant.0 c.loop-steps-test.true p.result.number (was_refused a.program.now v.words p.new.words v.s p.result p.ensures.result_after c.if-p-ne0.true)
 
 pub overflow_sub-made : goal.overflow_sub-made
 overflow_sub-made c =
     let a = c.args in
     let v = c.loop-steps in
     let p = c.advance-p in
-    let t = was_taken a.program.now v.words p.new.1.0 v.s p.result p.ensures.0 c.if-p-ne0.false in
-    let h = next_rises a.program.now v.words p.new.1.0 v.s p.result p.ensures.0 t in
+    let t = was_taken a.program.now v.words p.new.words v.s p.result p.ensures.result_after c.if-p-ne0.false in
+    let h = next_rises a.program.now v.words p.new.words v.s p.result p.ensures.result_after t in
     omega arith
 
 pub overflow_add-made : goal.overflow_add-made
@@ -46,10 +41,10 @@ overflow_add-made c =
     let a = c.args in
     let v = c.loop-steps in
     let p = c.advance-p in
-    let t = was_taken a.program.now v.words p.new.1.0 v.s p.result p.ensures.0 c.if-p-ne0.false in
-    let h = next_rises a.program.now v.words p.new.1.0 v.s p.result p.ensures.0 t in
-    let w = well_after a.program.now v.words p.new.1.0 v.s p.result p.ensures.0 t (p.auto.1.0 ∙ v.invariant.0.turn.well.long) in
-    let n = (shaped a.program.now p.new.1.0 p.result.scalars w).next_fits in
+    let t = was_taken a.program.now v.words p.new.words v.s p.result p.ensures.result_after c.if-p-ne0.false in
+    let h = next_rises a.program.now v.words p.new.words v.s p.result p.ensures.result_after t in
+    let w = well_after a.program.now v.words p.new.words v.s p.result p.ensures.result_after t (p.auto.words ∙ v.invariant.0.turn.well.long) in
+    let n = (shaped a.program.now p.new.words p.result.scalars w).next_fits in
     omega (arith, v.invariant.0.rises)
 
 pub overflow_add-gone : goal.overflow_add-gone
@@ -57,11 +52,11 @@ overflow_add-gone c =
     let a = c.args in
     let v = c.loop-steps in
     let p = c.advance-p in
-    let t = was_taken a.program.now v.words p.new.1.0 v.s p.result p.ensures.0 c.if-p-ne0.false in
-    let h = next_rises a.program.now v.words p.new.1.0 v.s p.result p.ensures.0 t in
-    let w = well_after a.program.now v.words p.new.1.0 v.s p.result p.ensures.0 t (p.auto.1.0 ∙ v.invariant.0.turn.well.long) in
-    let n = (shaped a.program.now p.new.1.0 p.result.scalars w).next_fits in
-    let d = adds_up a.program.now v.words p.new.1.0 v.s p.result p.ensures.0 t in
+    let t = was_taken a.program.now v.words p.new.words v.s p.result p.ensures.result_after c.if-p-ne0.false in
+    let h = next_rises a.program.now v.words p.new.words v.s p.result p.ensures.result_after t in
+    let w = well_after a.program.now v.words p.new.words v.s p.result p.ensures.result_after t (p.auto.words ∙ v.invariant.0.turn.well.long) in
+    let n = (shaped a.program.now p.new.words p.result.scalars w).next_fits in
+    let d = adds_up a.program.now v.words p.new.words v.s p.result p.ensures.result_after t in
     omega (arith, v.invariant.0.rises, v.invariant.0.sums, v.invariant.2)
 
 pub overflow_add-steps : goal.overflow_add-steps
@@ -69,31 +64,21 @@ overflow_add-steps c =
     let v = c.loop-steps in
     omega (arith, v.invariant.0.below, v.invariant.1)
 
-pub shape_of-words-then-s-eq0 : goal.shape_of-words-then-s-eq0
-shape_of-words-then-s-eq0 c =
-    let v = c.loop-steps in
-    c.advance-p.auto.1.0 ∙ v.invariant.0.turn.well.long ∙ sym v.invariant.3
-
 pub returns-then-s-eq0 : goal.returns-then-s-eq0
 returns-then-s-eq0 c =
     let a = c.args in
     let v = c.loop-steps in
     let p = c.advance-p in
-    let t = was_taken a.program.now v.words p.new.1.0 v.s p.result p.ensures.0 c.if-p-ne0.false in
-    at_phase_zero a.program.now a.words.now a.scalars a.limit v.words v.s v.steps v.made v.gone v.invariant.0 c.loop-steps-test.true p.new.1.0 p.result p.ensures.0 t (p.auto.1.0 ∙ v.invariant.0.turn.well.long) c.if-s-eq0.true
-
-pub shape_of-words-then-s-ne0 : goal.shape_of-words-then-s-ne0
-shape_of-words-then-s-ne0 c =
-    let v = c.loop-steps in
-    c.advance-p.auto.1.0 ∙ v.invariant.0.turn.well.long ∙ sym v.invariant.3
+    let t = was_taken a.program.now v.words p.new.words v.s p.result p.ensures.result_after c.if-p-ne0.false in
+    at_phase_zero a.program.now a.words.now a.scalars a.limit v.words v.s v.steps v.made v.gone v.invariant.0 c.loop-steps-test.true p.new.words p.result p.ensures.result_after t (p.auto.words ∙ v.invariant.0.turn.well.long) c.if-s-eq0.true
 
 pub returns-then-s-ne0 : goal.returns-then-s-ne0
 returns-then-s-ne0 c =
     let a = c.args in
     let v = c.loop-steps in
     let p = c.advance-p in
-    let t = was_taken a.program.now v.words p.new.1.0 v.s p.result p.ensures.0 c.if-p-ne0.false in
-    at_wait a.program.now a.words.now a.scalars a.limit v.words v.s v.steps v.made v.gone v.invariant.0 c.loop-steps-test.true p.new.1.0 p.result p.ensures.0 t (p.auto.1.0 ∙ v.invariant.0.turn.well.long) c.if-s-eq0.false c.if-s-ne0.true
+    let t = was_taken a.program.now v.words p.new.words v.s p.result p.ensures.result_after c.if-p-ne0.false in
+    at_wait a.program.now a.words.now a.scalars a.limit v.words v.s v.steps v.made v.gone v.invariant.0 c.loop-steps-test.true p.new.words p.result p.ensures.result_after t (p.auto.words ∙ v.invariant.0.turn.well.long) c.if-s-eq0.false c.if-s-ne0.true
 
 pub loop-steps-smaller : goal.loop-steps-smaller
 loop-steps-smaller c =
@@ -105,13 +90,8 @@ loop-steps-preserved c =
     let a = c.args in
     let v = c.loop-steps in
     let p = c.advance-p in
-    let t = was_taken a.program.now v.words p.new.1.0 v.s p.result p.ensures.0 c.if-p-ne0.false in
-    (running_next a.program.now a.words.now a.scalars a.limit v.words v.s v.steps v.made v.gone v.invariant.0 c.loop-steps-test.true p.new.1.0 p.result p.ensures.0 t (p.auto.1.0 ∙ v.invariant.0.turn.well.long) c.if-s-eq0.false c.if-s-ne0.false, v.invariant.1, v.invariant.2, v.invariant.3)
-
-pub shape_of-words : goal.shape_of-words
-shape_of-words c =
-    let v = c.loop-steps in
-    v.invariant.0.turn.well.long ∙ sym v.invariant.3
+    let t = was_taken a.program.now v.words p.new.words v.s p.result p.ensures.result_after c.if-p-ne0.false in
+    (running_next a.program.now a.words.now a.scalars a.limit v.words v.s v.steps v.made v.gone v.invariant.0 c.loop-steps-test.true p.new.words p.result p.ensures.result_after t (p.auto.words ∙ v.invariant.0.turn.well.long) c.if-s-eq0.false c.if-s-ne0.false, v.invariant.1, v.invariant.2, v.invariant.3)
 
 pub returns : goal.returns
 returns c =
