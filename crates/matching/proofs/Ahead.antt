@@ -3,10 +3,9 @@
 use mathlib.Core.Path.{◌≡◌, refl, sym, ap, ◌∙◌, subst}
 use mathlib.Core.Bool.{true}
 use mathlib.Core.Logic.{◌⊎◌, inl, inr, ◌≢◌}
-use mathlib.Core.List.{List, [], ◌∷◌}
+use mathlib.Core.List.{List, []}
 use Prim.Native.Nat.{ℕ, zero, suc, ◌+◌, ◌-◌, ◌≤◌, ◌<◌}
 use native.Mathlib.Omega.{arith}
-use lib.ListN.{length}
 use Rattle.lists.specs.Lists.{bind, is_empty}
 use Rattle.lists.proofs.Lists.{clash}
 use Rattle.model.specs.declared.Row.{Row}
@@ -21,10 +20,10 @@ use Rattle.queries.specs.Answers.{settled, answers}
 use Rattle.queries.proofs.Answers.{answers_all}
 use Rattle.matching.specs.declared.Rule.{Rule}
 use Rattle.matching.specs.Rules.{counted}
-use Rattle.matching.specs.Sets.{Member, OfRow, Same, Barren, Settled}
+use Rattle.matching.specs.Sets.{Member, OfRow, Barren, Settled}
 use Rattle.matching.proofs.Bits.{settled_valued}
 use Rattle.matching.proofs.Rows.{counted_next}
-use Rattle.matching.proofs.Failing.{Each, each_nil, answers_idle}
+use Rattle.matching.proofs.Failing.{each_nil, answers_idle}
 
 both_nothing : {A : Type 0} {R : A → A → Type 0} {l m : List A} → Both R l m → l ≡ [] → m ≡ []
 both_nothing both_none e = refl

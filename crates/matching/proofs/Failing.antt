@@ -3,16 +3,16 @@
 use Rattle.std.specs.Prelude.{if◌then◌else◌}
 use mathlib.Core.Path.{◌≡◌, refl, sym, ap, ◌∙◌, subst}
 use mathlib.Core.Bool.{Bool, true, false}
-use mathlib.Core.Logic.{◌⊎◌, inl, inr, ⊎_elim, ◌≢◌}
+use mathlib.Core.Logic.{inl, inr, ⊎_elim, ◌≢◌}
 use mathlib.Core.List.{List, [], ◌∷◌, ◌++◌, map}
 use Prim.Native.Nat.{ℕ, ◌+◌, ◌-◌, ◌≤◌, ◌<◌}
 use native.Mathlib.Omega.{arith}
 use lib.Dec.{eqb}
-use lib.ListN.{length, get_or, set, length-set}
+use lib.ListN.{length, set, length-set}
 use lib.Seq.{get_or-set_other}
 use borrow.Author.Tests.{eqb-true, eqb-false, ne_eqb, leb-false}
 use Rattle.lists.specs.Lists.{when, is_empty, bind, count_up}
-use Rattle.lists.proofs.Lists.{test, clash}
+use Rattle.lists.proofs.Lists.{test}
 use Rattle.lists.proofs.Bind.{append-nil, append_assoc}
 use Rattle.model.specs.declared.Row.{Row}
 use Rattle.model.specs.Program.{any?, constant?, constant, body}
@@ -27,9 +27,8 @@ use Rattle.search_laws.proofs.Relevance.{counts_alike}
 use Rattle.queries.specs.Answers.{taken, count_of, candidate_at, fit_at, hits, answers}
 use Rattle.queries.proofs.Answers.{answers_all}
 use Rattle.matching.specs.declared.Rule.{Rule}
-use Rattle.matching.specs.Rules.{rows_between, Located, counted}
-use Rattle.nogoods.specs.Nogoods.{has}
-use Rattle.matching.specs.Sets.{Member, HasIds, Inside, Joined, OfRow, OfBody, Same, Barren, Quiet, Apart}
+use Rattle.matching.specs.Rules.{Located, counted}
+use Rattle.matching.specs.Sets.{Member, HasIds, Inside, Joined, OfRow, OfBody, Same, Barren, Apart}
 use Rattle.matching.proofs.Rows.{counted_end, counted_next}
 
 -- every element

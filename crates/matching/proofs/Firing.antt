@@ -15,7 +15,7 @@ use Rattle.lists.proofs.Bind.{keep_append}
 use Rattle.lists.proofs.Splits.{keep_none}
 use Rattle.lists.proofs.Search.{map_bind, first_map}
 use Rattle.model.specs.declared.Row.{Row}
-use Rattle.model.specs.Program.{part_of, reasons, context, body, is_object}
+use Rattle.model.specs.Program.{part_of, reasons, context, is_object}
 use Rattle.model.specs.Configuration.{Config}
 use Rattle.model.specs.Matching.{Found, nothing_found, matches, counts, rule_rows, rule_matches, Firing, firing}
 use Rattle.program.specs.Rows.{row_at, rows_from, rows_of}

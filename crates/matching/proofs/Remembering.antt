@@ -1,17 +1,17 @@
 -- A table of nogoods: it begins true, stays true with what a failing search notes, and what it says of the present values holds of them.
-use mathlib.Core.Path.{◌≡◌, refl, sym, ap, ◌∙◌, subst}
+use mathlib.Core.Path.{◌≡◌, sym, ap, ◌∙◌, subst}
 use mathlib.Core.Logic.{◌⊎◌, inl, inr, ⊎_elim, ◌≢◌}
 use mathlib.Core.List.{List}
-use Prim.Native.Nat.{ℕ, ◌+◌, ◌-◌, ◌*◌, ◌≤◌, ◌<◌}
+use Prim.Native.Nat.{ℕ, ◌+◌, ◌-◌, ◌*◌, ◌<◌}
 use native.Mathlib.Omega.{arith}
-use lib.ListN.{length, take, drop, get_or, replicate, length-drop, length-replicate, get_or-replicate}
+use lib.ListN.{length, take, drop, replicate, length-drop, length-replicate, get_or-replicate}
 use lib.Seq.{length-take-le}
 use Rattle.lists.proofs.Tables.{get_within}
-use Rattle.model.specs.Configuration.{no_value, place, value_of}
+use Rattle.model.specs.Configuration.{no_value, place}
 use Rattle.model.specs.Matching.{Found}
 use Rattle.table.specs.Rows.{row}
 use Rattle.table.proofs.Rows.{row_at, row_long}
-use Rattle.nogoods.specs.Nogoods.{has, nogood, rest_in, set_in, values_in, count_in, ids_in, SpeaksOf, Recalled, Replaced}
+use Rattle.nogoods.specs.Nogoods.{nogood, rest_in, values_in, count_in, ids_in, SpeaksOf, Recalled, Replaced}
 use Rattle.nogoods.proofs.Laws.{nogood_values, nogood_count, nogood_ids, nogood_long, row_replaced, replaced_long}
 use Rattle.state.specs.declared.Scalars.{Scalars}
 use Rattle.queries.specs.View.{found_in}

@@ -17,7 +17,7 @@ use Rattle.lists.proofs.Search.{in_count_up, highest_over}
 use Rattle.model.specs.declared.Row.{Row}
 use Rattle.model.specs.Program.{rules_of}
 use Rattle.model.specs.Configuration.{Config}
-use Rattle.model.specs.Matching.{Found, rule_rows, rule_matches, Firing, firing}
+use Rattle.model.specs.Matching.{Found, rule_matches, Firing, firing}
 use Rattle.program.specs.Rows.{row_at, rows_from, rows_of}
 use Rattle.program_laws.specs.Lawful.{Lawful}
 use Rattle.spans.specs.Spans.{before, Bound}

@@ -1,7 +1,7 @@
 -- What a failure hangs on. Whether the rows from k on have a match that counts is decided by a few variables, and perhaps by the ids that the
 -- reasons matched. A search that fails answers with those, as a set; whatever else was found, the same rows fail again, so every way back
 -- that changes none of them need not be tried.
-use Rattle.std.specs.Prelude.{◌≡◌, Bool, true, false, ◌⊎◌, ◌≢◌, List, [], ◌∷◌, ℕ, ◌+◌, ◌-◌, ◌≤◌, ◌<◌, length}
+use Rattle.std.specs.Prelude.{◌≡◌, true, false, ◌⊎◌, ◌≢◌, List, [], ◌∷◌, ℕ, ◌+◌, ◌-◌, ◌≤◌, ◌<◌, length}
 use Rattle.lists.specs.Lists.{first_of}
 use Rattle.table.specs.Rows.{row}
 use Rattle.nogoods.specs.Nogoods.{has, no_set, width, places, size, rest_in, set_in, values_in, count_in, ids_in}

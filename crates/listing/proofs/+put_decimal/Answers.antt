@@ -1,5 +1,5 @@
 -- All digits but the last, then the last: one digit less may be written.
-use Prim.Native.Nat.{◌-◌, ◌/◌, ◌<◌}
+use Prim.Native.Nat.{◌-◌, ◌/◌}
 use native.Mathlib.Omega.{arith}
 use Rattle.listing.proofs.Written.{puts_none, puts_then}
 use Rattle.listing.proofs.Decimals.{decimal_short, decimal_none, decimal_one, decimal_more}

@@ -1,6 +1,5 @@
 -- Each `return` is a case of the test.
 use native.Mathlib.Omega.{arith}
-use borrow.Author.Rules.{rules}
 use Rattle.listing.proofs.Next.{next_no_atom, next_no_plan, next_by_id}
 use Rattle.listing.proofs.is_atom_next.Goals as goal
 

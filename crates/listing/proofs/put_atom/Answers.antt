@@ -1,7 +1,6 @@
 -- An atom's line has its numbers.
 use mathlib.Core.Path.{subst}
 use native.Mathlib.Omega.{arith}
-use borrow.Author.Rules.{rules}
 use Rattle.model.specs.declared.Atom.{Atom}
 use Rattle.model.specs.Run.{atom_line}
 use Rattle.listing.specs.Listing.{Puts, line}

@@ -1,11 +1,8 @@
 -- The loop's invariant: the first k bytes are written.
 use Prim.Native.Nat.{◌+◌, ◌-◌, ◌≤◌}
-use native.Mathlib.Omega.{arith}
 use mathlib.Core.Path.{◌≡◌}
 use lib.ListN.{length, take}
-use borrow.Author.Rules.{rules}
 use Rattle.listing.specs.Listing.{Puts}
-use Rattle.listing.proofs.Written.{puts_none, puts_more, puts_all, puts_long}
 use Rattle.listing.proofs.put_bytes.Given as goal
 
 abbrev pub invariant-loop-k : goal.invariant-loop-k

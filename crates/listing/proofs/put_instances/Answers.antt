@@ -1,11 +1,7 @@
-use Prim.Native.Nat.{◌+◌, ◌-◌, ◌≤◌}
-use mathlib.Core.Path.{◌≡◌, sym, ◌∙◌}
+use mathlib.Core.Path.{sym, ◌∙◌}
 use native.Mathlib.Omega.{arith}
-use lib.ListN.{length}
-use borrow.Author.Rules.{rules}
-use Rattle.listing.specs.Listing.{Listable}
 use Rattle.listing.proofs.Written.{puts_long}
-use Rattle.listing.proofs.Listed.{Listed, listed_none, listed_atom, listed_plan, listed_end}
+use Rattle.listing.proofs.Listed.{listed_none, listed_atom, listed_plan, listed_end}
 use Rattle.listing.proofs.Next.{next_atom, next_plan}
 use Rattle.listing.proofs.put_instances.Goals as goal
 

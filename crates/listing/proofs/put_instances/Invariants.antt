@@ -1,13 +1,9 @@
 -- What is written, then the text of the atoms from i on and of the plans from j on, is the whole listing.
 use Prim.Native.Nat.{◌+◌, ◌-◌, ◌≤◌}
-use mathlib.Core.Path.{◌≡◌, sym, ◌∙◌}
-use native.Mathlib.Omega.{arith}
+use mathlib.Core.Path.{◌≡◌}
 use lib.ListN.{length}
-use borrow.Author.Rules.{rules}
 use Rattle.listing.specs.Listing.{Listable}
-use Rattle.listing.proofs.Written.{puts_long}
-use Rattle.listing.proofs.Listed.{Listed, listed_none, listed_atom, listed_plan, listed_end}
-use Rattle.listing.proofs.Next.{next_atom, next_plan}
+use Rattle.listing.proofs.Listed.{Listed}
 use Rattle.listing.proofs.put_instances.Given as goal
 
 abbrev pub invariant-loop-i : goal.invariant-loop-i

@@ -1,11 +1,8 @@
-use Prim.Native.Nat.{◌+◌, ◌-◌, ◌*◌, ◌≤◌}
 use mathlib.Core.Path.{◌≡◌, ◌∙◌}
 use native.Mathlib.Omega.{arith}
-use lib.ListN.{length}
 use borrow.Author.Rules.{rules}
-use Rattle.listing.specs.Listing.{Puts}
 use Rattle.listing.proofs.Written.{puts_none, puts_then, puts_long}
-use Rattle.listing.proofs.Lines.{front, front_none, front_more, six}
+use Rattle.listing.proofs.Lines.{front_none, front_more, six}
 use Rattle.listing.proofs.put_line.Goals as goal
 
 pub loop-k-init : goal.loop-k-init

@@ -1,12 +1,9 @@
 -- The loop's invariant: the first k numbers are written, each with a space behind it.
 use Prim.Native.Nat.{◌+◌, ◌-◌, ◌*◌, ◌≤◌}
-use mathlib.Core.Path.{◌≡◌, ◌∙◌}
-use native.Mathlib.Omega.{arith}
+use mathlib.Core.Path.{◌≡◌}
 use lib.ListN.{length}
-use borrow.Author.Rules.{rules}
 use Rattle.listing.specs.Listing.{Puts}
-use Rattle.listing.proofs.Written.{puts_none, puts_then, puts_long}
-use Rattle.listing.proofs.Lines.{front, front_none, front_more, six}
+use Rattle.listing.proofs.Lines.{front}
 use Rattle.listing.proofs.put_line.Given as goal
 
 abbrev pub invariant-loop-k : goal.invariant-loop-k

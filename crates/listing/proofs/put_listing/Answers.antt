@@ -1,6 +1,5 @@
 -- The names and the instances, one behind the other.
 use native.Mathlib.Omega.{arith}
-use borrow.Author.Rules.{rules}
 use Rattle.model.specs.Text.{bytes}
 use Rattle.state.specs.View.{config_of}
 use Rattle.listing.proofs.Listed.{listing_put}

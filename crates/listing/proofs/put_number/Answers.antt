@@ -1,6 +1,5 @@
 -- A number's digits, then one byte.
 use native.Mathlib.Omega.{arith}
-use borrow.Author.Rules.{rules}
 use Rattle.listing.proofs.Written.{puts_then}
 use Rattle.listing.proofs.Decimals.{decimal_short}
 use Rattle.listing.proofs.put_number.Goals as goal

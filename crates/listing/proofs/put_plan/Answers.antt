@@ -3,7 +3,6 @@ use Prim.Native.Nat.{ℕ}
 use mathlib.Core.Path.{subst}
 use mathlib.Core.List.{List}
 use native.Mathlib.Omega.{arith}
-use borrow.Author.Rules.{rules}
 use Rattle.state.specs.View.{plan_at}
 use Rattle.listing.specs.Listing.{Puts, line}
 use Rattle.listing.proofs.Lines.{plan_line_is}

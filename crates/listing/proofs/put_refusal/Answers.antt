@@ -2,7 +2,6 @@
 use native.Mathlib.Omega.{arith}
 use Rattle.listing.proofs.Written.{puts_first}
 use Rattle.listing.proofs.Lines.{refusal_is}
-use borrow.Author.Rules.{rules}
 use Rattle.listing.proofs.put_refusal.Goals as goal
 
 pub returns : goal.returns

@@ -1,24 +1,20 @@
 -- With no fuel it gives up and says nothing.
-use Prim.Native.Nat.{ℕ, ◌+◌, ◌-◌, ◌<◌}
+use Prim.Native.Nat.{ℕ, ◌+◌, ◌-◌}
 use native.Mathlib.Omega.{arith}
-use borrow.Author.Rules.{rules}
 use mathlib.Core.Path.{◌≡◌, refl, sym, ap, ◌∙◌, subst}
-use mathlib.Core.Bool.{Bool, true, false≢true}
-use mathlib.Core.List.{List, [], ◌∷◌, ◌++◌}
-use lib.Dec.{eqb}
-use lib.ListN.{length, get_or, set, length-set, take}
-use Rattle.lists.specs.Lists.{bit, when, first_of, is_empty, bind}
+use mathlib.Core.Bool.{Bool, false≢true}
+use mathlib.Core.List.{List, [], ◌∷◌}
+use lib.ListN.{length-set}
+use Rattle.lists.specs.Lists.{when, first_of, is_empty}
 use Rattle.lists.proofs.Bind.{append-nil}
 use Rattle.lists.proofs.Search.{Only, first_when, spent, reached, backed, pruned}
 use Rattle.model.specs.Matching.{Found, counts}
 use Rattle.program.specs.Rows.{rows_of}
-use Rattle.program.proofs.Words.{row_inside}
 use Rattle.state.specs.View.{config_of}
-use Rattle.queries.specs.View.{found_in, Sized, Kept}
-use Rattle.queries.specs.Answers.{answers, width, given_ids, closed}
+use Rattle.queries.specs.View.{found_in}
+use Rattle.queries.specs.Answers.{answers, given_ids}
 use Rattle.queries.proofs.Laws.{kept_fewer}
 use Rattle.queries.proofs.Answers.{only_answers, ids_few}
-use Rattle.matching.specs.Rules.{reasons_in, counted}
 use Rattle.matching.proofs.Rows.{reasons_next, counted_end, counted_next, given_none, given_one}
 use Rattle.matching.proofs.Firing.{match_none, match_one}
 use Rattle.matching.proofs.+search.Goals as goal

@@ -1,26 +1,22 @@
 -- A failure is noted where it may be met again, and the nogoods stay true.
-use Prim.Native.Nat.{ℕ, ◌+◌, ◌-◌, ◌<◌, ◌≤◌}
+use Prim.Native.Nat.{ℕ, ◌+◌, ◌-◌}
 use native.Mathlib.Omega.{arith}
-use borrow.Author.Rules.{rules}
 use mathlib.Core.Path.{◌≡◌, refl, sym, ap, ◌∙◌, subst}
 use mathlib.Core.Bool.{Bool}
-use mathlib.Core.List.{List, [], ◌∷◌, ◌++◌}
-use lib.Dec.{eqb}
+use mathlib.Core.List.{List, [], ◌∷◌}
 use lib.ListN.{length, take}
-use Rattle.lists.specs.Lists.{bit, when, first_of, bind}
+use Rattle.lists.specs.Lists.{when, first_of}
 use Rattle.lists.proofs.Bind.{append-nil}
 use Rattle.lists.proofs.Search.{first_when, reached, backed}
 use Rattle.model.specs.Matching.{Found, counts}
 use Rattle.program.specs.Rows.{rows_of}
-use Rattle.program.proofs.Words.{row_inside}
 use Rattle.state.specs.View.{config_of}
-use Rattle.queries.specs.View.{found_in, Sized, Kept}
-use Rattle.queries.specs.Answers.{answers, width, given_ids}
+use Rattle.queries.specs.View.{found_in}
+use Rattle.queries.specs.Answers.{given_ids}
 use Rattle.queries.proofs.Laws.{kept_fewer}
 use Rattle.queries.proofs.Answers.{ids_few}
 use Rattle.filters.proofs.Laws.{barred_none}
-use Rattle.matching.specs.Rules.{reasons_in, counted}
-use Rattle.matching.specs.Sets.{Barren, Remembered}
+use Rattle.matching.specs.Sets.{Barren}
 use Rattle.matching.proofs.Rows.{reasons_next, counted_end, counted_next, given_none, given_one}
 use Rattle.matching.proofs.Bits.{of_row_more, apart_of}
 use Rattle.matching.proofs.Failing.{passed_none, passed_one, passed_all, barren_none, barren_leaf, barren_apart}

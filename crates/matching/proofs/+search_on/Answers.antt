@@ -1,22 +1,19 @@
 -- All answers of a row that leaves everything as it was are what was found before it, so the first match that counts is that of the rows behind it.
-use Prim.Native.Nat.{ℕ, ◌+◌, ◌-◌, ◌<◌}
+use Prim.Native.Nat.{ℕ, ◌+◌}
 use native.Mathlib.Omega.{arith}
 use mathlib.Core.Path.{◌≡◌, refl, sym, ap, ◌∙◌, subst}
 use mathlib.Core.List.{List, [], ◌∷◌, ◌++◌}
-use lib.Dec.{eqb}
-use borrow.Author.Rules.{rules}
-use Rattle.lists.specs.Lists.{bit, first_of, bind}
+use Rattle.lists.specs.Lists.{first_of, bind}
 use Rattle.lists.proofs.Bind.{append-nil}
-use Rattle.lists.proofs.Search.{Only, only_more, spent, reached, pruned}
+use Rattle.lists.proofs.Search.{Only, only_more, reached, pruned}
 use Rattle.model.specs.declared.Row.{Row}
 use Rattle.model.specs.Matching.{Found}
 use Rattle.program.specs.Rows.{row_at}
-use Rattle.program.proofs.Words.{row_inside}
 use Rattle.queries.specs.View.{found_in}
 use Rattle.queries.specs.Answers.{answers, given_ids}
 use Rattle.queries.proofs.Answers.{only_answers}
-use Rattle.matching.specs.Rules.{reasons_in, counted}
-use Rattle.matching.proofs.Rows.{reasons_next, counted_next, given_none, given_one}
+use Rattle.matching.specs.Rules.{counted}
+use Rattle.matching.proofs.Rows.{reasons_next, counted_next, given_one}
 use Rattle.matching.proofs.+search_on.Goals as goal
 
 only_first : {A : Type 0} (e v : A) (l r : List A) → Only e l → l ≡ v ∷ r → v ≡ e

@@ -1,6 +1,5 @@
-use borrow.Author.Rules.{rules}
 use native.Mathlib.Omega.{arith}
-use Prim.Native.Nat.{ℕ, ◌-◌, ◌<◌, ◌≤◌}
+use Prim.Native.Nat.{ℕ}
 use mathlib.Core.Path.{◌≡◌, refl, sym, ap, ◌∙◌, subst}
 use mathlib.Core.List.{List, []}
 use lib.Dec.{eqb}
@@ -9,7 +8,7 @@ use borrow.Author.Tests.{ne_eqb}
 use Rattle.lists.specs.Lists.{bit}
 use Rattle.model.specs.Matching.{Found}
 use Rattle.program.proofs.Words.{row_inside}
-use Rattle.queries.specs.View.{found_in, Sized, Kept}
+use Rattle.queries.specs.View.{found_in}
 use Rattle.queries.specs.Answers.{answers}
 use Rattle.queries.proofs.Answers.{onward_none}
 use Rattle.matching.proofs.Ahead.{barren_ahead}

@@ -1,24 +1,21 @@
 use borrow.Author.Rules.{rules}
 use mathlib.Core.Path.{◌≡◌, refl, sym, ap, ◌∙◌, subst}
 use mathlib.Core.Bool.{false≢true}
-use mathlib.Core.List.{List, [], ◌∷◌, map}
-use Prim.Native.Nat.{ℕ, ◌+◌, ◌-◌, ◌<◌, ◌≤◌}
+use mathlib.Core.List.{[], ◌∷◌, map}
+use Prim.Native.Nat.{ℕ, ◌+◌}
 use native.Mathlib.Omega.{arith}
-use lib.Dec.{eqb}
 use lib.ListN.{length}
-use Rattle.lists.specs.Lists.{bit, first_of, is_empty}
+use Rattle.lists.specs.Lists.{first_of, is_empty}
 use Rattle.lists.proofs.Search.{Only, spent, reached, backed, pruned}
 use Rattle.model.specs.declared.Row.{Row}
 use Rattle.model.specs.Matching.{Found, nothing_found}
-use Rattle.program.specs.Rows.{row_at, rows_of}
 use Rattle.program.proofs.Words.{row_inside}
-use Rattle.queries.specs.View.{found_in, Sized}
-use Rattle.queries.specs.Answers.{answers, width, given_ids}
+use Rattle.queries.specs.View.{found_in}
+use Rattle.queries.specs.Answers.{answers, given_ids}
 use Rattle.queries.proofs.Answers.{only_answers, ids_few}
-use Rattle.matching.specs.Rules.{reasons_in}
 use Rattle.matching.proofs.Rows.{reasons_next, given_none, given_one}
-use Rattle.matching.proofs.Rules.{top, fired, fires_all, next_rule, rule_there, rule_small}
-use Rattle.matching.proofs.Firing.{Parts, parts_rise, located, reasons_few, fires_as_it_is, fires_by_answers, rest_none, rest_one, match_none, match_one, firing_first, Choosing, choice_ends, not_chosen, Trying}
+use Rattle.matching.proofs.Rules.{fired, fires_all, next_rule, rule_there, rule_small}
+use Rattle.matching.proofs.Firing.{Parts, parts_rise, located, reasons_few, fires_as_it_is, fires_by_answers, rest_none, rest_one, match_none, match_one, firing_first, choice_ends, not_chosen}
 use Rattle.matching.proofs.choose.Goals as goal
 use Rattle.matching.proofs.choose.Goals.{then-c-eq0, else-c-eq0+then-m-eq6+then-d-lt-NONE, else-c-eq0+else-m-eq6+else-m-ne0+then-once}
 

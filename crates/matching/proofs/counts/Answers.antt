@@ -1,14 +1,13 @@
 use borrow.Author.Rules.{rules}
-use borrow.Author.Tests.{not-true, not-false}
+use borrow.Author.Tests.{not-false}
 use mathlib.Core.Path.{◌≡◌, refl, sym, ap, ◌∙◌}
-use Prim.Native.Nat.{◌-◌, ◌≤◌}
 use native.Mathlib.Omega.{arith}
-use lib.ListN.{length, drop}
-use Rattle.lists.specs.Lists.{same, some}
+use lib.ListN.{length}
+use Rattle.lists.specs.Lists.{same}
 use Rattle.model.specs.Configuration.{Plan}
-use Rattle.model.specs.Matching.{justifications_of, equal_plan, counts}
+use Rattle.model.specs.Matching.{justifications_of, counts}
 use Rattle.program.specs.Rows.{rows_of}
-use Rattle.state.specs.View.{plan_at, plans_of}
+use Rattle.state.specs.View.{plan_at}
 use Rattle.queries.specs.View.{found_of}
 use Rattle.matching.proofs.Plans.{some_here, some_next, some_end, not_same, other_justified}
 use Rattle.matching.proofs.counts.Goals as goal

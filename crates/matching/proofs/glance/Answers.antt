@@ -1,7 +1,6 @@
 -- What a nogood says of the present values and ids holds of them.
-use borrow.Author.Rules.{rules}
 use native.Mathlib.Omega.{arith}
-use Prim.Native.Nat.{ℕ, ◌-◌, ◌≤◌}
+use Prim.Native.Nat.{ℕ, ◌-◌}
 use mathlib.Core.Path.{◌≡◌, refl, subst}
 use Rattle.queries.specs.View.{found_in}
 use Rattle.matching.specs.Sets.{Barren}

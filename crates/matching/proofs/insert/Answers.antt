@@ -1,9 +1,7 @@
 use borrow.Author.Rules.{rules}
-use mathlib.Core.Path.{◌≡◌, refl}
-use Prim.Native.Nat.{◌-◌}
+use mathlib.Core.Path.{refl}
 use native.Mathlib.Omega.{arith}
-use lib.ListN.{length, take}
-use Rattle.matching.proofs.Plans.{Inserting, there, passed, moved, at_end, end_zeros}
+use Rattle.matching.proofs.Plans.{there, passed, moved, at_end, end_zeros}
 use Rattle.matching.proofs.insert.Goals as goal
 
 pub loop-j-init : goal.loop-j-init

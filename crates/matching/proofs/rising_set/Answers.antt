@@ -3,7 +3,7 @@ use mathlib.Core.Path.{◌≡◌}
 use Prim.Native.Nat.{◌≤◌}
 use native.Mathlib.Omega.{arith}
 use lib.ListN.{length}
-use Rattle.matching.proofs.Plans.{Sorted, sorted_none, sorted_rises, sorted_next}
+use Rattle.matching.proofs.Plans.{sorted_none, sorted_rises, sorted_next}
 use Rattle.matching.proofs.rising_set.Goals as goal
 
 pub loop-j-init : goal.loop-j-init

@@ -1,10 +1,5 @@
 -- The loop's invariant: the ids matched from place j on are put into rising order.
-use borrow.Author.Rules.{rules}
-use mathlib.Core.Path.{◌≡◌}
-use Prim.Native.Nat.{◌≤◌}
-use native.Mathlib.Omega.{arith}
-use lib.ListN.{length}
-use Rattle.matching.proofs.Plans.{Sorted, sorted_none, sorted_rises, sorted_next}
+use Rattle.matching.proofs.Plans.{Sorted}
 use Rattle.matching.proofs.rising_set.Given as goal
 
 abbrev pub invariant-loop-j : goal.invariant-loop-j

@@ -1,10 +1,8 @@
 use borrow.Author.Rules.{rules}
 use mathlib.Core.Path.{◌≡◌, refl, sym, ◌∙◌}
-use Prim.Native.Nat.{◌-◌, ◌≤◌}
 use native.Mathlib.Omega.{arith}
-use lib.ListN.{length, take, drop}
+use lib.ListN.{length, take}
 use lib.Seq.{get_or-take, length-take-le}
-use Rattle.lists.specs.Lists.{same}
 use Rattle.state.specs.View.{plan_at}
 use Rattle.matching.proofs.Plans.{same_longer, same_end, same_next, same_not}
 use Rattle.matching.proofs.same_justifications.Goals as goal

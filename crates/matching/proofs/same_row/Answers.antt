@@ -1,5 +1,4 @@
 -- The same test, operand by operand.
-use borrow.Author.Rules.{rules}
 use Rattle.matching.proofs.same_row.Goals as goal
 
 pub returns : goal.returns

@@ -1,12 +1,6 @@
-use mathlib.Core.Path.{◌≡◌, refl, sym, ◌∙◌}
-use borrow.Author.Tests.{not-true, not-false}
-use Prim.Native.Nat.{◌-◌}
+use mathlib.Core.Path.{refl, sym, ◌∙◌}
 use native.Mathlib.Omega.{arith}
-use Rattle.lists.specs.Lists.{same}
-use Rattle.model.specs.Matching.{body_values}
 use Rattle.program.proofs.Words.{row_inside}
-use Rattle.state.specs.View.{plan_at}
-use Rattle.matching.specs.Rules.{rows_between}
 use Rattle.matching.proofs.Plans.{body_end, body_next, body_not}
 use Rattle.matching.proofs.same_values.Goals as goal
 

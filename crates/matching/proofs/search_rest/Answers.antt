@@ -1,22 +1,18 @@
 use borrow.Author.Rules.{rules}
 use native.Mathlib.Omega.{arith}
-use Prim.Native.Nat.{ℕ, ◌+◌, ◌-◌, ◌<◌, ◌≤◌}
+use Prim.Native.Nat.{◌+◌}
 use mathlib.Core.Path.{◌≡◌, refl, sym, ap, ◌∙◌}
-use mathlib.Core.List.{List, [], ◌∷◌, ◌++◌}
-use lib.Dec.{eqb}
-use lib.ListN.{length}
-use Rattle.lists.specs.Lists.{bit, first_of, bind}
+use mathlib.Core.List.{List, [], ◌++◌}
+use Rattle.lists.specs.Lists.{first_of, bind}
 use Rattle.lists.proofs.Bind.{append-nil}
 use Rattle.lists.proofs.Search.{spent, reached, backed}
 use Rattle.model.specs.declared.Row.{Row}
 use Rattle.model.specs.Matching.{Found}
-use Rattle.program.specs.Rows.{row_at}
 use Rattle.program.proofs.Words.{row_inside}
-use Rattle.queries.specs.View.{found_in, Sized}
-use Rattle.queries.specs.Answers.{answers, width, given_ids}
+use Rattle.queries.specs.View.{found_in}
+use Rattle.queries.specs.Answers.{answers, given_ids}
 use Rattle.queries.proofs.Answers.{ids_few}
-use Rattle.matching.specs.Rules.{reasons_in, counted}
-use Rattle.matching.specs.Sets.{Remembered}
+use Rattle.matching.specs.Rules.{counted}
 use Rattle.matching.proofs.Rows.{reasons_next, given_none, given_one}
 use Rattle.matching.proofs.Bits.{apart_of}
 use Rattle.matching.proofs.Failing.{barren_none, rest_apart}

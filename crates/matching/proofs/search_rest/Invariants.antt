@@ -1,28 +1,15 @@
 -- The loop's invariant: the values are what they were; the first match that counts is the first among what follows the answers of row k from
 -- number c on; and the nogoods are true.
-use borrow.Author.Rules.{rules}
-use native.Mathlib.Omega.{arith}
-use Prim.Native.Nat.{ℕ, ◌+◌, ◌-◌, ◌<◌, ◌≤◌}
-use mathlib.Core.Path.{◌≡◌, refl, sym, ap, ◌∙◌}
-use mathlib.Core.List.{List, [], ◌∷◌, ◌++◌}
-use lib.Dec.{eqb}
+use Prim.Native.Nat.{◌+◌, ◌-◌}
+use mathlib.Core.Path.{◌≡◌}
+use mathlib.Core.List.{[], ◌++◌}
 use lib.ListN.{length}
-use Rattle.lists.specs.Lists.{bit, first_of, bind}
-use Rattle.lists.proofs.Bind.{append-nil}
-use Rattle.lists.proofs.Search.{spent, reached, backed}
-use Rattle.model.specs.declared.Row.{Row}
-use Rattle.model.specs.Matching.{Found}
+use Rattle.lists.specs.Lists.{first_of, bind}
 use Rattle.program.specs.Rows.{row_at}
-use Rattle.program.proofs.Words.{row_inside}
 use Rattle.queries.specs.View.{found_in, Sized}
-use Rattle.queries.specs.Answers.{answers, width, given_ids}
-use Rattle.queries.proofs.Answers.{onward_none, onward_one, ids_few}
-use Rattle.matching.specs.Rules.{reasons_in, counted}
+use Rattle.queries.specs.Answers.{answers, width}
+use Rattle.matching.specs.Rules.{counted}
 use Rattle.matching.specs.Sets.{Remembered}
-use Rattle.matching.proofs.Rows.{reasons_next}
-use Rattle.matching.proofs.Bits.{apart_of}
-use Rattle.matching.proofs.Failing.{barren_none, rest_apart}
-use Rattle.matching.proofs.Remembering.{remembered_empty}
 use Rattle.matching.proofs.search_rest.Given as goal
 
 abbrev pub invariant-loop-c : goal.invariant-loop-c

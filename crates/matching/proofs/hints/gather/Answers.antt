@@ -1,6 +1,4 @@
-use borrow.Author.Rules.{rules}
 use native.Mathlib.Omega.{arith}
-use Prim.Native.Nat.{◌-◌}
 use Rattle.matching.proofs.hints.gather.Goals as goal
 
 pub loop-j-init : goal.loop-j-init

@@ -1,6 +1,4 @@
-use borrow.Author.Rules.{rules}
 use native.Mathlib.Omega.{arith}
-use Prim.Native.Nat.{◌<◌}
 use Rattle.matching.proofs.hints.later_rows.Goals as goal
 
 pub returns-then-is_inside : goal.returns-then-is_inside

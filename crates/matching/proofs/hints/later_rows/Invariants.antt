@@ -1,6 +1,4 @@
 -- Nothing is claimed but that it ends, within its bounds.
-use borrow.Author.Rules.{rules}
-use native.Mathlib.Omega.{arith}
 use Prim.Native.Nat.{◌<◌}
 use Rattle.matching.proofs.hints.later_rows.Given as goal
 

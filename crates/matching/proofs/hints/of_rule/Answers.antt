@@ -1,6 +1,4 @@
-use borrow.Author.Rules.{rules}
 use native.Mathlib.Omega.{arith}
-use Prim.Native.Nat.{◌≤◌}
 use Rattle.matching.proofs.hints.of_rule.Goals as goal
 
 pub returns-then-first-ge-ROWS : goal.returns-then-first-ge-ROWS

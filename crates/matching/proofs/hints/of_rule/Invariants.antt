@@ -1,6 +1,4 @@
 -- Nothing is claimed but that it ends, within its bounds. The loop: no more rows are to go than at first.
-use borrow.Author.Rules.{rules}
-use native.Mathlib.Omega.{arith}
 use Prim.Native.Nat.{◌≤◌}
 use Rattle.matching.proofs.hints.of_rule.Given as goal
 

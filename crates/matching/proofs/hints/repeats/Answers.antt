@@ -1,7 +1,4 @@
-use borrow.Author.Rules.{rules}
 use native.Mathlib.Omega.{arith}
-use mathlib.Core.Logic.{⊎_elim}
-use Prim.Native.Nat.{◌-◌, ◌≤◌}
 use Rattle.matching.proofs.hints.repeats.Goals as goal
 
 pub returns-then-r : goal.returns-then-r

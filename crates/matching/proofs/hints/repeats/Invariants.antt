@@ -1,7 +1,4 @@
 -- Nothing is claimed but that it ends, within its bounds: no more are counted than were looked at.
-use borrow.Author.Rules.{rules}
-use native.Mathlib.Omega.{arith}
-use mathlib.Core.Logic.{⊎_elim}
 use Prim.Native.Nat.{◌-◌, ◌≤◌}
 use Rattle.matching.proofs.hints.repeats.Given as goal
 

@@ -1,4 +1,3 @@
-use mathlib.Core.Path.{◌≡◌}
 use borrow.Author.Tests.{eqb-true}
 use Rattle.matching.proofs.Bits.{nothing_common}
 use Rattle.matching.proofs.sets.are_apart.Goals as goal

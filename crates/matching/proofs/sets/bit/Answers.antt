@@ -1,6 +1,5 @@
 use native.Mathlib.Omega.{arith}
 use Prim.Native.Nat.{◌-◌}
-use borrow.Author.Rules.{rules}
 use Rattle.matching.proofs.Bits.{bit_at}
 use Rattle.matching.proofs.sets.bit.Goals as goal
 

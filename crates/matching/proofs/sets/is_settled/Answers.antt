@@ -1,7 +1,6 @@
 -- The row's three operands, and its part.
-use borrow.Author.Rules.{rules}
-use mathlib.Core.Path.{◌≡◌, refl, sym, ◌∙◌}
-use mathlib.Core.Bool.{Bool, true, false, ◌&&◌, and-eq-true_iff}
+use mathlib.Core.Path.{refl, sym, ◌∙◌}
+use mathlib.Core.Bool.{◌&&◌, and-eq-true_iff}
 use Rattle.lists.proofs.Lists.{clash}
 use Rattle.matching.proofs.sets.is_settled.Goals as goal
 

@@ -1,16 +1,15 @@
 use mathlib.Core.Path.{◌≡◌, refl, sym, subst}
 use mathlib.Core.Logic.{⊎_elim}
-use Prim.Native.Nat.{ℕ, ◌+◌, ◌-◌, ◌<◌, ◌≤◌}
+use Prim.Native.Nat.{ℕ}
 use native.Mathlib.Omega.{arith}
 use lib.Dec.{eqb}
 use borrow.Author.Tests.{eqb-true, eqb-false}
-use borrow.Author.Rules.{rules}
 use Rattle.lists.proofs.Lists.{test}
 use Rattle.model.specs.declared.Row.{Row}
 use Rattle.program.specs.Rows.{row_at}
 use Rattle.program.proofs.Words.{row_inside}
 use Rattle.nogoods.specs.Nogoods.{has}
-use Rattle.matching.specs.Sets.{HasIds, OfRow}
+use Rattle.matching.specs.Sets.{OfRow}
 use Rattle.matching.proofs.Bits.{looks_at, of_row_more, of_row_right}
 use Rattle.matching.proofs.sets.of_body.Goals as goal
 

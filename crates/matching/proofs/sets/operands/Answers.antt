@@ -1,4 +1,3 @@
-use borrow.Author.Rules.{rules}
 use Rattle.model.specs.Configuration.{place}
 use Rattle.matching.proofs.sets.operands.Goals as goal
 
