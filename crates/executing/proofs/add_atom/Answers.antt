@@ -1,7 +1,6 @@
 -- The atom is made, then the step is removed.
 use mathlib.Core.Path.{◌≡◌, refl, ap, ◌∙◌}
 use Prim.Native.Nat.{ℕ}
-use borrow.Author.Rules.{rules}
 use Rattle.model.specs.Configuration.{Plan, Config, add_atom}
 use Rattle.model.specs.Log.{begin, answer_of}
 use Rattle.model.specs.Calls.{succeed}

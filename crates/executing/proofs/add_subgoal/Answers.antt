@@ -2,7 +2,6 @@
 use mathlib.Core.Path.{◌≡◌, refl, ap, ◌∙◌}
 use Prim.Native.Nat.{ℕ}
 use native.Mathlib.Omega.{arith}
-use borrow.Author.Rules.{rules}
 use Rattle.model.specs.Configuration.{Plan, Config}
 use Rattle.model.specs.Log as Log
 use Rattle.model.specs.Log.{begin, executed, report, quiet, emit_subgoal}

@@ -1,11 +1,9 @@
 use mathlib.Core.Path.{◌≡◌, sym, ap, ◌∙◌}
-use Prim.Native.Nat.{◌-◌}
 use native.Mathlib.Omega.{arith}
-use borrow.Author.Rules.{rules}
 use Rattle.model.specs.Configuration.{without_flag, scheduled, stepped}
 use Rattle.executing.specs.Exec.{cleared}
 use Rattle.state.specs.View.{plan_at}
-use Rattle.executing.proofs.Cleared.{Clearing, clearing_first, flags_left, clearing_next, clearing_end}
+use Rattle.executing.proofs.Cleared.{clearing_first, flags_left, clearing_next, clearing_end}
 use Rattle.executing.proofs.clear_flags.Goals as goal
 
 pub loop-k-init : goal.loop-k-init

@@ -1,7 +1,6 @@
 -- The step is removed, and stepped is set.
 use mathlib.Core.Path.{refl, ap}
 use Prim.Native.Nat.{ℕ}
-use borrow.Author.Rules.{rules}
 use Rattle.model.specs.Log as Log
 use Rattle.model.specs.Log.{begin, executed, report, quiet}
 use Rattle.model.specs.Calls.{succeed, set_stepped, remove_step}

@@ -1,6 +1,5 @@
 -- Flags cleared, then the scalars of the next cycle.
 use mathlib.Core.Path.{refl}
-use borrow.Author.Rules.{rules}
 use Rattle.model.specs.Log.{begin, cycle_ended, report, quiet}
 use Rattle.model.specs.Calls.{next_cycle}
 use Rattle.state.specs.View.{config_of}

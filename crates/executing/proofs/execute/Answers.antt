@@ -1,7 +1,6 @@
 -- The first plan that is due decides; where none is, the cycle ends.
 use mathlib.Core.Path.{sym, ap, ◌∙◌}
 use lib.Dec.{ltb}
-use borrow.Author.Rules.{rules}
 use borrow.Author.Tests.{lt-ltb, le-ltb}
 use Rattle.lists.specs.Lists.{keep}
 use Rattle.model.specs.Configuration.{Plan, Config}

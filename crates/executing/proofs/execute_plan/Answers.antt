@@ -1,7 +1,6 @@
 -- The first step decides, then the subgoal.
 use mathlib.Core.Path.{sym, ap, ◌∙◌}
 use mathlib.Core.List.{List}
-use borrow.Author.Rules.{rules}
 use borrow.Author.Tests.{not-true, not-false}
 use Rattle.model.specs.declared.Row.{Row}
 use Rattle.model.specs.Configuration.{Plan, Config, remainder}

@@ -1,12 +1,8 @@
-use mathlib.Core.Path.{◌≡◌, refl, sym, ◌∙◌}
-use Prim.Native.Nat.{◌-◌}
+use mathlib.Core.Path.{refl, sym, ◌∙◌}
 use native.Mathlib.Omega.{arith}
-use lib.ListN.{drop}
-use borrow.Author.Rules.{rules}
-use Rattle.lists.specs.Lists.{some}
 use Rattle.model.specs.Configuration.{equal_to}
 use Rattle.model.specs.Calls.{exists_atom}
-use Rattle.state.specs.View.{atom_at, atoms_of}
+use Rattle.state.specs.View.{atom_at}
 use Rattle.executing.proofs.Places.{some_skip, some_hit, some_end}
 use Rattle.executing.proofs.exists_atom.Goals as goal
 

@@ -1,14 +1,10 @@
 -- No atom before place k is p(a, b).
-use mathlib.Core.Path.{◌≡◌, refl, sym, ◌∙◌}
+use mathlib.Core.Path.{◌≡◌}
 use Prim.Native.Nat.{◌-◌}
-use native.Mathlib.Omega.{arith}
 use lib.ListN.{drop}
-use borrow.Author.Rules.{rules}
 use Rattle.lists.specs.Lists.{some}
 use Rattle.model.specs.Configuration.{equal_to}
-use Rattle.model.specs.Calls.{exists_atom}
-use Rattle.state.specs.View.{atom_at, atoms_of}
-use Rattle.executing.proofs.Places.{some_skip, some_hit, some_end}
+use Rattle.state.specs.View.{atoms_of}
 use Rattle.executing.proofs.exists_atom.Given as goal
 
 abbrev pub invariant-loop-k : goal.invariant-loop-k

@@ -1,7 +1,6 @@
 -- Failed and stepped are set, and the step stays.
 use mathlib.Core.Path.{refl, ap}
 use Prim.Native.Nat.{ℕ}
-use borrow.Author.Rules.{rules}
 use Rattle.model.specs.Log as Log
 use Rattle.model.specs.Log.{begin, executed, report, quiet}
 use Rattle.model.specs.Calls.{fail, set_stepped, set_failed}

@@ -1,13 +1,10 @@
-use mathlib.Core.Path.{◌≡◌, refl, sym, ap, ◌∙◌}
+use mathlib.Core.Path.{refl, sym, ap, ◌∙◌}
 use mathlib.Core.Bool.{Bool}
-use Prim.Native.Nat.{◌-◌}
 use native.Mathlib.Omega.{arith}
-use lib.ListN.{drop}
-use borrow.Author.Rules.{rules}
 use borrow.Author.Tests.{lt-ltb, le-ltb}
-use Rattle.lists.specs.Lists.{keep, when, first_of}
+use Rattle.lists.specs.Lists.{when, first_of}
 use Rattle.model.specs.Calls.{is_due}
-use Rattle.state.specs.View.{plan_at, plans_of}
+use Rattle.state.specs.View.{plan_at}
 use Rattle.executing.proofs.Places.{keep_skip, keep_hit, keep_end}
 use Rattle.executing.proofs.first_due.Goals as goal
 

@@ -1,5 +1,4 @@
 -- Both flags, by the plan's own.
-use borrow.Author.Rules.{rules}
 use Rattle.model.specs.Calls.{is_due}
 use Rattle.executing.proofs.is_due.Goals as goal
 

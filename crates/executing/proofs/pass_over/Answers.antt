@@ -2,7 +2,6 @@
 use mathlib.Core.Path.{refl, ap}
 use Prim.Native.Nat.{ℕ}
 use native.Mathlib.Omega.{arith}
-use borrow.Author.Rules.{rules}
 use Rattle.model.specs.Log.{begin, executed, report, quiet}
 use Rattle.model.specs.Calls.{pass_over, set_stepped}
 use Rattle.state.specs.View.{plan_at, config_of}

@@ -1,8 +1,6 @@
 -- The step by its op; each way answers as its part does.
 use mathlib.Core.Path.{refl, sym, ap, ◌∙◌}
 use Prim.Native.Nat.{ℕ}
-use borrow.Author.Rules.{rules}
-use borrow.Author.Tests.{not-true, not-false}
 use Rattle.model.specs.Configuration.{Plan, Config, with_waiting}
 use Rattle.model.specs.Log.{begin, waits, report, quiet, answer_of}
 use Rattle.state.specs.View.{plan_at, config_of, waiting_put}

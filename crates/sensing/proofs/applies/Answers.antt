@@ -1,6 +1,5 @@
 -- The test of the model, with the constant by a call.
 use Rattle.model.specs.Calls.{applies as does-apply}
-use borrow.Author.Rules.{rules}
 use Rattle.sensing.proofs.applies.Goals as goal
 
 pub returns : goal.returns

@@ -1,7 +1,6 @@
 use borrow.Author.Rules.{rules}
-use borrow.Author.Tests.{not-true}
-use mathlib.Core.Path.{◌≡◌, sym, subst, ◌∙◌}
-use Prim.Native.Nat.{ℕ, ◌+◌, ◌-◌, ◌≤◌}
+use mathlib.Core.Path.{sym, subst, ◌∙◌}
+use Prim.Native.Nat.{ℕ}
 use native.Mathlib.Omega.{arith}
 use Rattle.program.proofs.Words.{row_inside}
 use Rattle.sensing.proofs.Ceilings.{Looked, looked_none, looked_bare, looked_first, looked_next, looked_all}

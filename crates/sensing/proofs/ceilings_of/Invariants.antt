@@ -1,11 +1,6 @@
 -- The first k rows have been looked at (`Looked`).
-use borrow.Author.Rules.{rules}
-use borrow.Author.Tests.{not-true}
-use mathlib.Core.Path.{◌≡◌, sym, subst, ◌∙◌}
-use Prim.Native.Nat.{ℕ, ◌+◌, ◌-◌, ◌≤◌}
-use native.Mathlib.Omega.{arith}
-use Rattle.program.proofs.Words.{row_inside}
-use Rattle.sensing.proofs.Ceilings.{Looked, looked_none, looked_bare, looked_first, looked_next, looked_all}
+use Prim.Native.Nat.{◌-◌, ◌≤◌}
+use Rattle.sensing.proofs.Ceilings.{Looked}
 use Rattle.sensing.proofs.ceilings_of.Given as goal
 
 abbrev pub invariant-loop-k : goal.invariant-loop-k

@@ -1,4 +1,3 @@
-use borrow.Author.Rules.{rules}
 use Rattle.sensing.proofs.is_ceiling.Goals as goal
 
 pub returns : goal.returns

@@ -1,5 +1,4 @@
 -- Four numbers of a record.
-use borrow.Author.Rules.{rules}
 use Rattle.sensing.proofs.reading_at.Goals as goal
 
 pub returns : goal.returns

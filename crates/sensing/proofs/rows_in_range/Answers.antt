@@ -1,12 +1,9 @@
-use mathlib.Core.Path.{◌≡◌, sym, ap, ◌∙◌}
-use Prim.Native.Nat.{◌-◌, ◌/◌}
+use mathlib.Core.Path.{sym, ap, ◌∙◌}
+use Prim.Native.Nat.{◌/◌}
 use lib.ListN.{length}
 use native.Mathlib.Omega.{arith}
-use borrow.Author.Rules.{rules}
-use borrow.Author.Tests.{not-true, not-false}
 use Rattle.lists.specs.Lists.{every}
 use Rattle.model.specs.Calls.{in_range as is_in_range}
-use Rattle.sensing.specs.Sensing.{readings_from}
 use Rattle.sensing.proofs.Readings.{readings_all, every_step, every_fails, every_none}
 use Rattle.sensing.proofs.rows_in_range.Goals as goal
 

@@ -1,14 +1,9 @@
 -- What was passed is in range: the answer is that of the rows that are left.
-use mathlib.Core.Path.{◌≡◌, sym, ap, ◌∙◌}
-use Prim.Native.Nat.{◌-◌, ◌/◌}
-use lib.ListN.{length}
-use native.Mathlib.Omega.{arith}
-use borrow.Author.Rules.{rules}
-use borrow.Author.Tests.{not-true, not-false}
+use mathlib.Core.Path.{◌≡◌}
+use Prim.Native.Nat.{◌-◌}
 use Rattle.lists.specs.Lists.{every}
 use Rattle.model.specs.Calls.{in_range as is_in_range}
 use Rattle.sensing.specs.Sensing.{readings_from}
-use Rattle.sensing.proofs.Readings.{readings_all, every_step, every_fails, every_none}
 use Rattle.sensing.proofs.rows_in_range.Given as goal
 
 abbrev pub invariant-loop-k : goal.invariant-loop-k

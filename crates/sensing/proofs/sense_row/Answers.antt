@@ -6,7 +6,6 @@ use Rattle.state.specs.View.{config_of}
 use Rattle.sensing.specs.Sensing.{reading_of, Withdraws}
 use Rattle.sensing.proofs.Readings.{senses_add, senses_withdrawal, ready_added}
 use Rattle.state.proofs.Room.{atoms_of_bar, bar_free}
-use borrow.Author.Rules.{rules}
 use Rattle.sensing.proofs.sense_row.Goals as goal
 
 pub returns-then-bar-ne0 : goal.returns-then-bar-ne0

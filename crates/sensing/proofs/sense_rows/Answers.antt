@@ -1,12 +1,10 @@
-use mathlib.Core.Path.{◌≡◌, sym, ◌∙◌}
-use Prim.Native.Nat.{◌-◌, ◌*◌, ◌/◌, ◌≤◌}
+use mathlib.Core.Path.{sym, ◌∙◌}
+use Prim.Native.Nat.{◌/◌}
 use native.Mathlib.Omega.{arith}
 use lib.ListN.{length}
-use borrow.Author.Rules.{rules}
 use Rattle.program.specs.Rows.{rows_of}
 use Rattle.state.specs.View.{config_of}
-use Rattle.sensing.specs.Sensing.{reading_at}
-use Rattle.sensing.proofs.Readings.{SensingAt, at_first, at_barred, at_next, at_end}
+use Rattle.sensing.proofs.Readings.{at_first, at_barred, at_next, at_end}
 use Rattle.sensing.proofs.sense_rows.Goals as goal
 
 pub loop-k-init : goal.loop-k-init

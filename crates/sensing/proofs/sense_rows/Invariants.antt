@@ -1,13 +1,10 @@
 -- What is left of sense is the rows from k on, after a log that the words show.
-use mathlib.Core.Path.{◌≡◌, sym, ◌∙◌}
-use Prim.Native.Nat.{◌-◌, ◌*◌, ◌/◌, ◌≤◌}
-use native.Mathlib.Omega.{arith}
+use mathlib.Core.Path.{◌≡◌}
+use Prim.Native.Nat.{◌-◌, ◌*◌, ◌≤◌}
 use lib.ListN.{length}
-use borrow.Author.Rules.{rules}
 use Rattle.program.specs.Rows.{rows_of}
 use Rattle.state.specs.View.{config_of}
-use Rattle.sensing.specs.Sensing.{reading_at}
-use Rattle.sensing.proofs.Readings.{SensingAt, at_first, at_barred, at_next, at_end}
+use Rattle.sensing.proofs.Readings.{SensingAt}
 use Rattle.sensing.proofs.sense_rows.Given as goal
 
 abbrev pub invariant-loop-k : goal.invariant-loop-k

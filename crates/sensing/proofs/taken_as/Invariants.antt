@@ -1,16 +1,11 @@
-use mathlib.Core.Path.{◌≡◌, sym, ap, ◌∙◌}
+use mathlib.Core.Path.{◌≡◌}
 use Prim.Native.Nat.{◌-◌, ◌/◌, ◌≤◌}
-use native.Mathlib.Omega.{arith}
-use borrow.Author.Rules.{rules}
-use Rattle.model.specs.declared.Row.{Row}
-use Rattle.model.specs.Calls.{taken_as, applies as does-apply}
-use Rattle.program.specs.Rows.{row_at, rows_of}
-use Rattle.program.proofs.Words.{row_inside}
+use Rattle.model.specs.Calls.{taken_as}
+use Rattle.program.specs.Rows.{rows_of}
 use Rattle.sensing.specs.Sensing.{reading_of}
-use Rattle.sensing.proofs.Ceilings.{left_of, left_skip, left_hit}
+use Rattle.sensing.proofs.Ceilings.{left_of}
 use Rattle.sensing.specs.Sensing.{Bare}
 use lib.ListN.{length}
-use Rattle.sensing.proofs.Ceilings.{bare_first, bare_last}
 use Rattle.sensing.proofs.taken_as.Given as goal
 
 abbrev pub invariant-loop-k : goal.invariant-loop-k

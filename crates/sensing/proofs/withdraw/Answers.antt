@@ -1,15 +1,12 @@
 use mathlib.Core.Path.{◌≡◌, sym, ap, ◌∙◌}
-use mathlib.Core.Bool.{true}
-use Prim.Native.Nat.{ℕ, ◌+◌, ◌-◌, ◌<◌, ◌≤◌}
+use Prim.Native.Nat.{ℕ, ◌+◌}
 use native.Mathlib.Omega.{arith}
-use lib.ListN.{length}
-use borrow.Author.Rules.{rules}
-use Rattle.state.specs.View.{atom_at, config_of, SoundWords}
+use Rattle.state.specs.View.{atom_at, config_of}
 use Rattle.model.specs.declared.Atom.{Atom}
 use Rattle.model.specs.Deletion.{graph, remove as removed}
 use Rattle.model.specs.Events.{gone_by, deletion}
-use Rattle.model.specs.Configuration.{Config, equal_to}
-use Rattle.sensing.proofs.Withdrawals.{Withdrawing, withdrawing_first, withdrawing_on, withdrawing_take, withdrawing_end, fewer}
+use Rattle.model.specs.Configuration.{Config}
+use Rattle.sensing.proofs.Withdrawals.{withdrawing_first, withdrawing_on, withdrawing_take, withdrawing_end, fewer}
 use Rattle.deletion.proofs.Sound.{counts_after}
 use Rattle.sensing.proofs.withdraw.Goals as goal
 
