@@ -26,6 +26,6 @@ answer_admitted-requires c =
 
 pub returns : goal.returns
 returns c = let told = c.answer_admitted.ensures in record {
-      result_after = told.result_after;
-      untouched = told.untouched;
-    }
+  result_after = told.result_after;
+  untouched = told.untouched;
+}

@@ -24,6 +24,6 @@ run_admitted-requires c =
 
 pub returns : goal.returns
 returns c = let told = c.run_admitted.ensures in record {
-      result_after = told.result_after;
-      untouched = told.untouched;
-    }
+  result_after = told.result_after;
+  untouched = told.untouched;
+}

@@ -26,6 +26,6 @@ sense_admitted-requires c =
 
 pub returns : goal.returns
 returns c = let told = c.sense_admitted.ensures in record {
-      result_after = told.result_after;
-      untouched = told.untouched;
-    }
+  result_after = told.result_after;
+  untouched = told.untouched;
+}

@@ -36,6 +36,6 @@ returns-then-w-ne0 c =
 
 pub returns-else-w-ne0 : goal.returns-else-w-ne0
 returns-else-w-ne0 c = record {
-      senses_rows = c.sense_rows-w.ensures.senses_rows;
-      untouched = λ m. absurd (m c.if-w-ne0.false);
-    }
+  senses_rows = c.sense_rows-w.ensures.senses_rows;
+  untouched = λ m. absurd (m c.if-w-ne0.false);
+}

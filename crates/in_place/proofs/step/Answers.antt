@@ -25,6 +25,6 @@ step_admitted-requires c =
 
 pub returns : goal.returns
 returns c = let told = c.step_admitted.ensures in record {
-      result_after = told.result_after;
-      untouched = told.untouched;
-    }
+  result_after = told.result_after;
+  untouched = told.untouched;
+}
