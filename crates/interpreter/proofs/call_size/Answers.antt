@@ -11,13 +11,13 @@ pub returns-then-words-lt3 : goal.returns-then-words-lt3
 returns-then-words-lt3 c = too_few c.args.words.now c.if-words-lt3.true
 
 pub overflow_add-size : goal.overflow_add-size
-overflow_add-size c = omega (arith, c.shared_slice_known-3-1.given 1)
+overflow_add-size c = omega arith
 
 pub overflow_add-size-2 : goal.overflow_add-size-2
 overflow_add-size-2 c =
     let words = c.args.words.now in
     let few = at_most (eqb (kind words) 1) (operand words) in
-    omega (arith, c.shared_slice_known-3-1.given 1, c.shared_slice_known-4-1.given 2, c.reading_words.ensures, few)
+    omega (arith, c.reading_words.ensures, few)
 
 pub returns-then-kind-size : goal.returns-then-kind-size
 returns-then-kind-size c =

@@ -4,7 +4,7 @@ use Rattle.interpreter.proofs.delete.Goals as goal
 
 pub returns : goal.returns
 returns c = let r = c.delete-d in
-    let all = gives _ _ _ r.result _ c.changed.ensures r.ensures.result_value r.ensures.untouched in record {
+    let all = gives _ _ _ r.result _ c.changed.ensures r.ensures.result_after r.ensures.untouched in record {
       result_value = all.0;
       untouched = all.1;
     }
