@@ -143,8 +143,7 @@ fn settle_change<'a>(scalars: &'a mut [u32], report: &'a mut [u32], c: Change) -
 }
 
 // "delete, not while waiting: an id, atom or plan."
-#[unsafe(no_mangle)]
-pub extern "C" fn jq_delete(
+pub fn jq_delete(
     program: &[u32],
     words: &mut [u32],
     scalars: &mut [u32],
@@ -162,8 +161,7 @@ pub extern "C" fn jq_delete(
 }
 
 // "answer, only while waiting ..: 1 removes the step, 0 sets failed"
-#[unsafe(no_mangle)]
-pub extern "C" fn jq_answer(
+pub fn jq_answer(
     program: &[u32],
     words: &mut [u32],
     scalars: &mut [u32],
@@ -181,8 +179,7 @@ pub extern "C" fn jq_answer(
 }
 
 // "sense, phase 0 only: 0 to 64 rows of sign (1 add, 2 withdraw), p, a, b." Four words a row.
-#[unsafe(no_mangle)]
-pub extern "C" fn jq_sense(
+pub fn jq_sense(
     program: &[u32],
     words: &mut [u32],
     scalars: &mut [u32],
@@ -200,13 +197,7 @@ pub extern "C" fn jq_sense(
 }
 
 // "step": a rule of the phase's set fires, or a plan is executed.
-#[unsafe(no_mangle)]
-pub extern "C" fn jq_step(
-    program: &[u32],
-    words: &mut [u32],
-    scalars: &mut [u32],
-    report: &mut [u32],
-) -> u32
+pub fn jq_step(program: &[u32], words: &mut [u32], scalars: &mut [u32], report: &mut [u32]) -> u32
     ensures report_after { seen result words.new scalars.new report.new ≡ reply_seen (to_step (given_rows program.now)) words.old scalars.old report.old }
     ensures untouched { result ≢ 0 → (words.new ≡ words.old) × (scalars.new ≡ scalars.old) × (report.new ≡ report.old) }
 {
@@ -226,8 +217,7 @@ pub extern "C" fn jq_step(
 }
 
 // "run, with a limit of 1 to 10,000, outside phase 0 and not waiting (else 6)": steps in turn.
-#[unsafe(no_mangle)]
-pub extern "C" fn jq_run(
+pub fn jq_run(
     program: &[u32],
     words: &mut [u32],
     scalars: &mut [u32],
@@ -253,8 +243,7 @@ pub extern "C" fn jq_run(
 }
 
 // Whether the words and the scalars are a configuration of the program, so that the trusted calls may take them: 0, else 1.
-#[unsafe(no_mangle)]
-pub extern "C" fn jq_check(program: &[u32], words: &[u32], scalars: &[u32]) -> u32
+pub fn jq_check(program: &[u32], words: &[u32], scalars: &[u32]) -> u32
     ensures { result ≡ checked program.now words.now scalars.now }
 {
     if words.len() != 2432 {
@@ -270,8 +259,7 @@ pub extern "C" fn jq_check(program: &[u32], words: &[u32], scalars: &[u32]) -> u
 }
 
 // jq_delete for what is well formed; nothing is tested again.
-#[unsafe(no_mangle)]
-pub extern "C" fn jq_trusted_delete(
+pub fn jq_trusted_delete(
     program: &[u32],
     words: &mut [u32],
     scalars: &mut [u32],
@@ -288,8 +276,7 @@ pub extern "C" fn jq_trusted_delete(
 }
 
 // jq_answer for what is well formed; nothing is tested again.
-#[unsafe(no_mangle)]
-pub extern "C" fn jq_trusted_answer(
+pub fn jq_trusted_answer(
     program: &[u32],
     words: &mut [u32],
     scalars: &mut [u32],
@@ -306,8 +293,7 @@ pub extern "C" fn jq_trusted_answer(
 }
 
 // jq_sense for what is well formed; nothing is tested again.
-#[unsafe(no_mangle)]
-pub extern "C" fn jq_trusted_sense(
+pub fn jq_trusted_sense(
     program: &[u32],
     words: &mut [u32],
     scalars: &mut [u32],
@@ -324,8 +310,7 @@ pub extern "C" fn jq_trusted_sense(
 }
 
 // jq_step for what is well formed; nothing is tested again.
-#[unsafe(no_mangle)]
-pub extern "C" fn jq_trusted_step(
+pub fn jq_trusted_step(
     program: &[u32],
     words: &mut [u32],
     scalars: &mut [u32],
@@ -349,8 +334,7 @@ pub extern "C" fn jq_trusted_step(
 }
 
 // jq_run for what is well formed; nothing is tested again.
-#[unsafe(no_mangle)]
-pub extern "C" fn jq_trusted_run(
+pub fn jq_trusted_run(
     program: &[u32],
     words: &mut [u32],
     scalars: &mut [u32],
@@ -385,8 +369,7 @@ fn lay<'a>(program: &'a mut [u32], words: &'a mut [u32], rows: [u32; 4096], laid
 }
 
 // "Load tests lines in order": the program and its fresh configuration, or the first refusal with its line.
-#[unsafe(no_mangle)]
-pub extern "C" fn jq_load(
+pub fn jq_load(
     text: &[u8],
     program: &mut [u32],
     words: &mut [u32],

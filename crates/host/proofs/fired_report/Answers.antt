@@ -9,12 +9,12 @@ use Rattle.host.proofs.fired_report.Goals as goal
 
 pub returns-in-Nothing : goal.returns-in-Nothing
 unfolding padded did_numbers made_numbers
-returns-in-Nothing c = let a = c.args in ap (λ (x : Made). report_of a.made a.gone (fired a.set a.rule (made_of x))) (sym c.enum_told-1.given.1)
+returns-in-Nothing c = let a = c.args in ap (λ (x : Made). report_of a.made a.gone (fired a.set a.rule (made_of x))) (sym c.in-Nothing.is)
 
 pub returns-in-Atom : goal.returns-in-Atom
 unfolding padded did_numbers made_numbers
-returns-in-Atom c = let a = c.args in ap (λ (x : Made). report_of a.made a.gone (fired a.set a.rule (made_of x))) (sym c.what-1.given.1)
+returns-in-Atom c = let a = c.args in ap (λ (x : Made). report_of a.made a.gone (fired a.set a.rule (made_of x))) (sym c.in-Atom.is)
 
 pub returns-in-Plan : goal.returns-in-Plan
 unfolding padded did_numbers made_numbers
-returns-in-Plan c = let a = c.args in ap (λ (x : Made). report_of a.made a.gone (fired a.set a.rule (made_of x))) (sym c.what-in-Plan-1.given.1)
+returns-in-Plan c = let a = c.args in ap (λ (x : Made). report_of a.made a.gone (fired a.set a.rule (made_of x))) (sym c.in-Plan.is)

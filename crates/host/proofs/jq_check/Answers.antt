@@ -1,6 +1,5 @@
 -- The two lengths, then the pair.
 use mathlib.Core.Path.{sym, ap, ◌∙◌}
-use borrow.Author.Tests.{not-true, not-false}
 use Rattle.state.specs.declared.Scalars.{Scalars}
 use Rattle.state.specs.View.{config_of}
 use Rattle.in_place.specs.Given.{admitted}
@@ -20,12 +19,12 @@ pub returns-then-not-admits : goal.returns-then-not-admits
 returns-then-not-admits c =
     let a = c.args in
     let same = ap (λ (x : Scalars). admitted a.program.now (config_of a.words.now x)) c.scalars_of.ensures in
-    let no = sym (c.admits.ensures ∙ same) ∙ not-true _ c.if-not-admits.true in
+    let no = sym (c.admits.ensures ∙ same) ∙ c.if-not-admits.true in
     check_pair a.program.now a.words.now a.scalars.now no
 
 pub returns : goal.returns
 returns c =
     let a = c.args in
     let same = ap (λ (x : Scalars). admitted a.program.now (config_of a.words.now x)) c.scalars_of.ensures in
-    let yes = sym (c.admits.ensures ∙ same) ∙ not-false _ c.if-not-admits.false in
+    let yes = sym (c.admits.ensures ∙ same) ∙ c.if-not-admits.false in
     check_well a.program.now a.words.now a.scalars.now c.if-words-ne2432.false c.if-scalars-ne6.false yes

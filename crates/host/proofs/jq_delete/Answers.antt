@@ -1,6 +1,5 @@
 use Rattle.in_place.specs.Given.{given_rows}
 use mathlib.Core.Path.{refl, sym, ap, ◌∙◌}
-use borrow.Author.Tests.{not-true, not-false}
 use Rattle.model.specs.Claims.{work}
 use Rattle.host.specs.Calls.{held}
 use Rattle.in_place.proofs.Deleted.{delete_1}
@@ -15,16 +14,23 @@ use Rattle.host.proofs.jq_delete.Goals as goal
 
 pub returns-then-not-is_sized : goal.returns-then-not-is_sized
 unfolding work
-returns-then-not-is_sized c = let a = c.args in (refused_seen a.words.now a.scalars.now a.report.now _ (delete_1 a.program.now (held a.words.now a.scalars.now a.report.now) a.id (none_admitted a.program.now (held a.words.now a.scalars.now a.report.now) (held_not a.words.now a.scalars.now a.report.now (sym c.is_sized.ensures ∙ not-true _ c.if-not-is_sized.true)))), λ z. (refl, refl, refl))
+returns-then-not-is_sized c = let a = c.args in record {
+  report_after = refused_seen a.words.now a.scalars.now a.report.now _ (delete_1 a.program.now (held a.words.now a.scalars.now a.report.now) a.id (none_admitted a.program.now (held a.words.now a.scalars.now a.report.now) (held_not a.words.now a.scalars.now a.report.now (sym c.is_sized.ensures ∙ c.if-not-is_sized.true))));
+  untouched = λ z. (refl, refl, refl);
+}
 
 pub scalars_of-requires : goal.scalars_of-requires
-scalars_of-requires c = let a = c.args in (long a.words.now a.scalars.now a.report.now (sym c.is_sized.ensures ∙ not-false _ c.if-not-is_sized.false)).1
+scalars_of-requires c = let a = c.args in (long a.words.now a.scalars.now a.report.now (sym c.is_sized.ensures ∙ c.if-not-is_sized.false)).1
 
 pub delete-c-requires : goal.delete-c-requires
-delete-c-requires c = let a = c.args in (long a.words.now a.scalars.now a.report.now (sym c.is_sized.ensures ∙ not-false _ c.if-not-is_sized.false)).0
+delete-c-requires c = let a = c.args in (long a.words.now a.scalars.now a.report.now (sym c.is_sized.ensures ∙ c.if-not-is_sized.false)).0
 
 pub settle_change-requires : goal.settle_change-requires
-settle_change-requires c = let a = c.args in let h = long a.words.now a.scalars.now a.report.now (sym c.is_sized.ensures ∙ not-false _ c.if-not-is_sized.false) in (h.1, h.2)
+settle_change-requires c = let a = c.args in let h = long a.words.now a.scalars.now a.report.now (sym c.is_sized.ensures ∙ c.if-not-is_sized.false) in (h.1, h.2)
 
 pub returns : goal.returns
-returns c = let a = c.args in let k = (to_delete (given_rows a.program.now) a.id) in let c' = c.delete-c in let e = c.scalars_of.ensures in let t = c.settle_change.ensures in call_after a.words.now a.scalars.now a.report.now c'.new.1.0 _ _ c'.result.scalars c'.result.number c'.result.made c'.result.gone called (sym c.is_sized.ensures ∙ not-false _ c.if-not-is_sized.false) c'.auto.1.0 t.0 t.1.0 (λ n. (c'.ensures.1 n).0) (λ n. ap (λ (x : Change). x.scalars) (c'.ensures.1 n).1 ∙ e) _ t.1.1 k (c'.ensures.0 ∙ ap (λ (x : Scalars). reply k (config_of a.words.now x)) e)
+returns c = let a = c.args in let k = (to_delete (given_rows a.program.now) a.id) in let c' = c.delete-c in let e = c.scalars_of.ensures in let t = c.settle_change.ensures in
+    let all = call_after a.words.now a.scalars.now a.report.now c'.new.words _ _ c'.result.scalars c'.result.number c'.result.made c'.result.gone called (sym c.is_sized.ensures ∙ c.if-not-is_sized.false) c'.auto.words t.scalars t.report (λ n. (c'.ensures.untouched n).0) (λ n. ap (λ (x : Change). x.scalars) (c'.ensures.untouched n).1 ∙ e) _ t.number k (c'.ensures.result_after ∙ ap (λ (x : Scalars). reply k (config_of a.words.now x)) e) in record {
+      report_after = all.0;
+      untouched = all.1;
+    }

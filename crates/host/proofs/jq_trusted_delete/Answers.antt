@@ -33,8 +33,13 @@ returns c =
     let e = c.scalars_of.ensures in
     let t = c.settle_change.ensures in
     let k = to_delete (given_rows a.program.now) a.id in
-    trusted_call_after a.words.now a.scalars.now a.report.now r.new.1.0 _ _
-    r.result.scalars r.result.number r.result.made r.result.gone called c.requires.lengths r.auto.1.0
-    t.0 t.1.0
-    (λ n. (r.ensures.1.0 n).0) (λ n. ap (λ (x : Change). x.scalars) (r.ensures.1.0 n).1 ∙ e)
-    a.program.now r.ensures.1.1 _ t.1.1 k (r.ensures.0 ∙ ap (λ (x : Scalars). reply k (config_of a.words.now x)) e)
+    let all =
+    trusted_call_after a.words.now a.scalars.now a.report.now r.new.words _ _
+    r.result.scalars r.result.number r.result.made r.result.gone called c.requires.lengths r.auto.words
+    t.scalars t.report
+    (λ n. (r.ensures.untouched n).0) (λ n. ap (λ (x : Change). x.scalars) (r.ensures.untouched n).1 ∙ e)
+    a.program.now r.ensures.stays _ t.number k (r.ensures.result_after ∙ ap (λ (x : Scalars). reply k (config_of a.words.now x)) e) in record {
+      report_after = all.0;
+      untouched = all.1.0;
+      stays = all.1.1;
+    }

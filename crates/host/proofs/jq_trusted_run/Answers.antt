@@ -33,8 +33,13 @@ returns c =
     let e = c.scalars_of.ensures in
     let t = c.settle.ensures in
     let rows = given_rows a.program.now in
-    trusted_run_after a.words.now a.scalars.now a.report.now r.new.1.0 _ _ r.result c.requires.lengths r.auto.1.0
-    t.0 (t.1.0 ∙ ap (settled r.result.number a.report.now) c.run_report.ensures)
-    (λ n. (r.ensures.1.0 n).0) (λ n. ap (λ (x : RunChange). x.scalars) (r.ensures.1.0 n).1 ∙ e)
-    a.program.now r.ensures.1.1 _ t.1.1 rows a.limit
-    (r.ensures.0 ∙ ap (λ (x : Scalars). run rows (config_of a.words.now x) a.limit) e)
+    let all =
+    trusted_run_after a.words.now a.scalars.now a.report.now r.new.words _ _ r.result c.requires.lengths r.auto.words
+    t.scalars (t.report ∙ ap (settled r.result.number a.report.now) c.run_report.ensures)
+    (λ n. (r.ensures.untouched n).0) (λ n. ap (λ (x : RunChange). x.scalars) (r.ensures.untouched n).1 ∙ e)
+    a.program.now r.ensures.stays _ t.number rows a.limit
+    (r.ensures.result_after ∙ ap (λ (x : Scalars). run rows (config_of a.words.now x) a.limit) e) in record {
+      report_after = all.0;
+      untouched = all.1.0;
+      stays = all.1.1;
+    }

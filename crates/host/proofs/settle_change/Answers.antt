@@ -5,4 +5,8 @@ use Rattle.host.proofs.settle_change.Goals as goal
 
 pub returns : goal.returns
 unfolding padded did_numbers
-returns c = let r = c.settle.ensures in (r.0, (r.1.0, r.1.1))
+returns c = let r = c.settle.ensures in record {
+  scalars = r.scalars;
+  report = r.report;
+  number = r.number;
+}

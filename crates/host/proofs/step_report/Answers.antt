@@ -8,24 +8,24 @@ use Rattle.host.proofs.step_report.Goals as goal
 
 pub returns-in-Refused : goal.returns-in-Refused
 unfolding padded did_numbers
-returns-in-Refused c = let a = c.args in ap (λ (x : Did). report_of a.made a.gone (did_of x)) (sym c.enum_told-1.given.1)
+returns-in-Refused c = let a = c.args in ap (λ (x : Did). report_of a.made a.gone (did_of x)) (sym c.in-Refused.is)
 
 pub returns-in-Fired : goal.returns-in-Fired
 unfolding padded did_numbers
-returns-in-Fired c = let a = c.args in c.fired_report.ensures ∙ ap (λ (x : Did). report_of a.made a.gone (did_of x)) (sym c.did-1.given.1)
+returns-in-Fired c = let a = c.args in c.fired_report.ensures ∙ ap (λ (x : Did). report_of a.made a.gone (did_of x)) (sym c.in-Fired.is)
 
 pub returns-in-MovedOn : goal.returns-in-MovedOn
 unfolding padded did_numbers
-returns-in-MovedOn c = let a = c.args in ap (λ (x : Did). report_of a.made a.gone (did_of x)) (sym c.enum_told-in-MovedOn-1.given.1)
+returns-in-MovedOn c = let a = c.args in ap (λ (x : Did). report_of a.made a.gone (did_of x)) (sym c.in-MovedOn.is)
 
 pub returns-in-Executed : goal.returns-in-Executed
 unfolding padded did_numbers
-returns-in-Executed c = let a = c.args in c.executed_report.ensures ∙ ap (λ (x : Did). report_of a.made a.gone (did_of x)) (sym c.did-in-Executed-1.given.1)
+returns-in-Executed c = let a = c.args in c.executed_report.ensures ∙ ap (λ (x : Did). report_of a.made a.gone (did_of x)) (sym c.in-Executed.is)
 
 pub returns-in-Waits : goal.returns-in-Waits
 unfolding padded did_numbers
-returns-in-Waits c = let a = c.args in ap (λ (x : Did). report_of a.made a.gone (did_of x)) (sym c.did-in-Waits-1.given.1)
+returns-in-Waits c = let a = c.args in ap (λ (x : Did). report_of a.made a.gone (did_of x)) (sym c.in-Waits.is)
 
 pub returns-in-CycleEnded : goal.returns-in-CycleEnded
 unfolding padded did_numbers
-returns-in-CycleEnded c = let a = c.args in ap (λ (x : Did). report_of a.made a.gone (did_of x)) (sym c.enum_told-in-CycleEnded-1.given.1)
+returns-in-CycleEnded c = let a = c.args in ap (λ (x : Did). report_of a.made a.gone (did_of x)) (sym c.in-CycleEnded.is)
