@@ -1,5 +1,5 @@
 -- What an action needs of the words, and that what it leaves can be worked on.
-use Rattle.std.specs.Prelude.{if◌then◌else◌}
+use Rattle.std.specs.Prelude.{if◌then◌else◌, Option, is_some}
 use mathlib.Core.Path.{◌≡◌, refl, sym, ap, ◌∙◌, subst}
 use mathlib.Core.Bool.{Bool, true, false}
 use mathlib.Core.Logic.{◌⊎◌}
@@ -10,7 +10,7 @@ use lib.Dec.{eqb, ltb}
 use lib.ListN.{length}
 use borrow.Author.Tests.{lt-ltb, le-ltb}
 use Rattle.lists.specs.Lists.{keep}
-use Rattle.lists.specs.Tables.{index_of}
+use Rattle.lists.specs.Tables.{PlaceOf, index_of}
 use Rattle.lists.proofs.Lists.{all_map, keep_in}
 use Rattle.model.specs.declared.Row.{Row}
 use Rattle.model.specs.Program.{constant}
@@ -21,6 +21,7 @@ use Rattle.model.specs.Events.{deletion, gone_by}
 use Rattle.graph_laws.proofs.Turns.{change_plan_turns_not}
 use Rattle.state.specs.declared.Scalars.{Scalars}
 use Rattle.state.specs.View.{plan_at, config_of, atom_ids_of, plan_ids_of, SoundWords, LivePlan, atom_counted}
+use Rattle.stepping.proofs.Room.{found}
 use Rattle.state.proofs.Live.{sound_live, found_plan, found_atom_alive, found_plan_alive}
 use Rattle.deletion.proofs.Sound.{sound_added, sound_still, counts_after}
 use Rattle.stepping.proofs.Standing.{live_plan}
@@ -69,30 +70,16 @@ workable_flags words words' s w k f h l e = record {
     at q i true = h q.flags i
     at q i false = i
 
--- WHETHER ITS INSTANCE LIVES: y is the id, and i is where the search for it ended
-module _ (words : List ℕ) (s : Scalars) (x y i : ℕ) (e : x ≡ y) where
-  module _ (f : i ≡ index_of x (atom_ids_of s.atoms words)) where
-    alive_atom : ltb i s.atoms ≡ atom_alive (config_of words s) y
-    alive_atom = ap (λ (k : ℕ). ltb k s.atoms) f ∙ found_atom_alive words s x ∙ ap (atom_alive (config_of words s)) e
+-- WHETHER ITS INSTANCE LIVES: y is the id, and r is where the search for it ended
+module _ (words : List ℕ) (s : Scalars) (x y : ℕ) (e : x ≡ y) where
+  pub atom_lives : (r : Option ℕ) → PlaceOf s.atoms x (atom_ids_of s.atoms words) r → atom_alive (config_of words s) y ≡ is_some r
+  atom_lives r f = ap (atom_alive (config_of words s)) (sym e) ∙ sym (found_atom_alive words s x) ∙ found s.atoms x (atom_ids_of s.atoms words) r f
 
-    pub atom_lives : i < s.atoms → atom_alive (config_of words s) y ≡ true
-    atom_lives h = sym alive_atom ∙ lt-ltb i s.atoms h
+  pub plan_lives : (r : Option ℕ) → PlaceOf s.plans x (plan_ids_of s.plans words) r → plan_alive (config_of words s) y ≡ is_some r
+  plan_lives r f = ap (plan_alive (config_of words s)) (sym e) ∙ sym (found_plan_alive words s x) ∙ found s.plans x (plan_ids_of s.plans words) r f
 
-    pub atom_lacks : s.atoms ≤ i → atom_alive (config_of words s) y ≡ false
-    atom_lacks h = sym alive_atom ∙ le-ltb i s.atoms h
-
-  module _ (f : i ≡ index_of x (plan_ids_of s.plans words)) where
-    alive_plan : ltb i s.plans ≡ plan_alive (config_of words s) y
-    alive_plan = ap (λ (k : ℕ). ltb k s.plans) f ∙ found_plan_alive words s x ∙ ap (plan_alive (config_of words s)) e
-
-    pub plan_lives : i < s.plans → plan_alive (config_of words s) y ≡ true
-    plan_lives h = sym alive_plan ∙ lt-ltb i s.plans h
-
-    pub plan_lacks : s.plans ≤ i → plan_alive (config_of words s) y ≡ false
-    plan_lacks h = sym alive_plan ∙ le-ltb i s.plans h
-
-    pub plan_there : i < s.plans → (plan_at words i).id ≡ y
-    plan_there h = ap (λ (k : ℕ). (plan_at words k).id) f ∙ found_plan s.plans words x (subst (λ (k : ℕ). k < s.plans) f h) ∙ e
+  pub plan_there : (k : ℕ) → k ≡ index_of x (plan_ids_of s.plans words) → k < s.plans → (plan_at words k).id ≡ y
+  plan_there k f h = ap (λ (k : ℕ). (plan_at words k).id) f ∙ found_plan s.plans words x (subst (λ (k : ℕ). k < s.plans) f h) ∙ e
 
 -- a flag of it can be set, and cleared
 pub flag_number : (row : Row) → FlagNumber row → (row.op ≡ 23) ⊎ (row.op ≡ 24) → (1 ≤ constant row.a) × (constant row.a ≤ 16)

@@ -70,13 +70,12 @@ fn add_atom(words: &mut [u32], scalars: Scalars, row: Row, values: [u32; 8], mad
     ensures workable { result.number ≡ 0 → Workable words.new result.scalars }
     ensures few { result.gone ≤ 320 }
 {
-    let bar = state::room_for_atom(scalars);
-    if bar != 0 {
+    if let Err(refusal) = state::room_for_atom(scalars) {
         return Acted {
             scalars,
             values,
             gone: 0,
-            number: bar,
+            number: refusal.number(),
             made,
             stopped: false,
         };
@@ -127,16 +126,14 @@ fn act(words: &mut [u32], scalars: Scalars, row: Row, values: [u32; 8], made: Ma
     }
     let id = operand(values, row.i);
     if op == 22 {
-        let i = state::find_atom(words, scalars.atoms, id);
-        if scalars.atoms as usize <= i {
+        if state::find_atom(words, scalars.atoms, id).is_none() {
             return stop(scalars, values, made);
         }
         return delete(words, scalars, values, made, id);
     }
-    let k = state::find_plan(words, scalars.plans, id);
-    if scalars.plans as usize <= k {
+    let Some(k) = state::find_plan(words, scalars.plans, id) else {
         return stop(scalars, values, made);
-    }
+    };
     if op == 23 {
         state::set_flag(words, scalars, k, model::constant(row.a));
         return Acted {

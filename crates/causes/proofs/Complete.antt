@@ -1,8 +1,8 @@
 -- The tests leave nothing out: a row of a rule in which they find nothing wrong is one that the load takes, and a row of set 0 too, but for
 -- a second ceiling.
-use mathlib.Core.Path.{◌≡◌, refl, sym, ◌∙◌, subst}
+use mathlib.Core.Path.{◌≡◌, refl, sym}
 use mathlib.Core.Logic.{◌≢◌, ⊎_elim}
-use mathlib.Core.Bool.{Bool, true, false, ◌&&◌, ◌||◌, not, or-false, or-true, false≢true}
+use mathlib.Core.Bool.{Bool, true, false, ◌&&◌, ◌||◌, not, or-true, false≢true}
 use Prim.Native.Nat.{ℕ, ◌+◌, ◌≤◌, ◌<◌}
 use native.Mathlib.Omega.{arith}
 use lib.Dec.{leb, eqb}
@@ -14,20 +14,9 @@ use Rattle.program_laws.proofs.Tests.{and_left, and_right, and_other}
 use Rattle.model.specs.declared.Row.{Row}
 use Rattle.model.specs.declared.Scan.{Scan}
 use Rattle.model.specs.Program.{any?, unused?, flag?, constant?, constant_within}
-use Rattle.model.specs.Load.{same_rule, in_order, against_kind, breaks, set_0_row, atom_row, ceiling_row, rule_row, query, action, plan_step}
-use Rattle.causes.specs.declared.Breach.{Breach}
-use Rattle.causes.specs.declared.Checked.{Checked}
-use Rattle.causes.specs.declared.Checked.TheVariants as checked
-use Rattle.causes.specs.Causes.{Breaches, has_predicate, has_flag, is_unused, is_given}
-use Rattle.causes.specs.Checking.{InSetZero, Checks, Ordered, Stands, Unused, Given, Used, New, Constants, misfits}
-
--- what an answer tells
-module _ (s t : Scan) (r : Row) (holds : Type 0) {c : Checked} (w : Checks s t r holds c) where
-  pub is_wrong : {b : Breach} → c ≡ checked.Wrong b → Breaches s t r b
-  is_wrong e = subst (Checks s t r holds) e w
-
-  pub is_right : c ≡ checked.Right → holds
-  is_right e = subst (Checks s t r holds) e w
+use Rattle.model.specs.Load.{in_order, against_kind, breaks, set_0_row, atom_row, ceiling_row, rule_row, query, action, plan_step}
+use Rattle.causes.specs.Causes.{has_predicate, has_flag, is_unused, is_given}
+use Rattle.causes.specs.Checking.{Ordered, Stands, Unused, Given, Used, New, Constants, Faultless, misfits}
 
 by_number : {C : Type 0} (n m : ℕ) → (n ≡ m → C) → (n ≢ m → C) → C
 by_number n m f g = ⊎_elim (λ t. f (eqb-true n m t)) (λ t. g (eqb-false n m t)) (test (eqb n m))
@@ -56,37 +45,6 @@ in_3 a b c d e = or_first (a || b || c) d (or_right (a || b) e)
 
 in_4 : (a b c d : Bool) → d ≡ true → a || b || c || d ≡ true
 in_4 a b c d e = or_right (a || b || c) e
-
-module _ (s : Scan) (r : Row) where
-  pub order_same : r.set ≡ s.set → r.rule ≡ s.rule → s.part ≤ r.part → in_order s r ≡ true
-  order_same e f h = simp (eq-eqb _ _ e, eq-eqb _ _ f, le-leb _ _ h)
-
-  abbrev same_part : Bool
-  same_part = same_rule s r && leb s.part r.part
-
-  abbrev next_rule : Bool
-  next_rule = eqb r.set s.set && leb 1 s.set && eqb r.rule (s.rule + 1)
-
-  abbrev next_set : Bool
-  next_set = eqb r.set (s.set + 1) && eqb r.rule 1
-
-  pub order_next_rule : r.set ≡ s.set → 1 ≤ s.set → r.rule ≡ s.rule + 1 → in_order s r ≡ true
-  order_next_rule e h f =
-      let q : next_rule ≡ true = all_3 (eqb r.set s.set) (leb 1 s.set) (eqb r.rule (s.rule + 1)) (eq-eqb _ _ e) (le-leb _ _ h) (eq-eqb _ _ f) in
-      let p : same_part || next_rule ≡ true = or_right same_part q in
-      or_first (same_part || next_rule) next_set p
-
-  pub order_next_set : r.set ≡ s.set + 1 → r.rule ≡ 1 → in_order s r ≡ true
-  order_next_set e f = or_right (same_part || next_rule) (simp (eq-eqb _ _ e, eq-eqb _ _ f))
-
-  -- a row of set 0 behind none, or behind one of set 0
-  pub order_set_0 : InSetZero s → r.set ≡ s.set → r.set < 1 → Ordered s r
-  order_set_0 b e h z =
-      let n : s.set ≡ 0 = omega arith in
-      let m : r.set ≡ 0 = omega arith in
-      let q = b n in
-      let f = z m in
-      order_same e (f ∙ sym q.0) (omega (arith, q.1))
 
 module _ (t : Scan) (r : Row) (u : Unused r) (g : Given r) (w : Used r) (n : New t r) (k : Constants r) where
   p_used : has_predicate r.op ≡ true → leb 1 r.p ≡ true
@@ -222,7 +180,7 @@ module _ (t : Scan) (r : Row) (u : Unused r) (g : Given r) (w : Used r) (n : New
     reason_right : r.part ≡ 1 → rule_row t r ≡ true
     unfolding rule_row
     reason_right e =
-        let o : eqb r.op 1 ≡ true = simp (off_0, e, or-false) at st.op in
+        let o : eqb r.op 1 ≡ true = simp (off_0, e) at st.op in
         let q = eqb-true r.op 1 o in
         in_1 reason_row context_row step_row action_row (all_3 (eqb r.part 1) (eqb r.op 1) (query r) (eq-eqb _ _ e) o (queries (omega arith) (omega arith)))
 
@@ -232,7 +190,7 @@ module _ (t : Scan) (r : Row) (u : Unused r) (g : Given r) (w : Used r) (n : New
       where
         object : t.object ≡ true → rule_row t r ≡ true
         object o =
-            let x : within 1 2 r.op ≡ true = simp (off_0, e, o, or-false) at st.op in
+            let x : within 1 2 r.op ≡ true = simp (off_0, e, o) at st.op in
             let l = leb-true 1 r.op (and_left (leb 1 r.op) (leb r.op 2) x) in
             let k = and_right (leb 1 r.op) (leb r.op 2) x in
             let m = leb-true r.op 2 k in
@@ -240,7 +198,7 @@ module _ (t : Scan) (r : Row) (u : Unused r) (g : Given r) (w : Used r) (n : New
 
         meta : t.object ≡ false → rule_row t r ≡ true
         meta o =
-            let x : within 1 14 r.op ≡ true = simp (off_0, e, o, or-false) at st.op in
+            let x : within 1 14 r.op ≡ true = simp (off_0, e, o) at st.op in
             let l = leb-true 1 r.op (and_left (leb 1 r.op) (leb r.op 14) x) in
             let k = leb-true r.op 14 (and_right (leb 1 r.op) (leb r.op 14) x) in
             in_2 reason_row context_row step_row action_row (all_3 (eqb r.part 2) (query r) (not t.object || leb r.op 2) (eq-eqb _ _ e) (queries l k) (rw o))
@@ -251,7 +209,7 @@ module _ (t : Scan) (r : Row) (u : Unused r) (g : Given r) (w : Used r) (n : New
       where
         object : t.object ≡ true → rule_row t r ≡ true
         object o =
-            let x : within 31 36 r.op ≡ true = simp (off_0, e, o, or-false) at st.op in
+            let x : within 31 36 r.op ≡ true = simp (off_0, e, o) at st.op in
             let l = leb-true 31 r.op (and_left (leb 31 r.op) (leb r.op 36) x) in
             let k = leb-true r.op 36 (and_right (leb 31 r.op) (leb r.op 36) x) in
             in_3 reason_row context_row step_row action_row (all_3 (eqb r.part 3) t.object (plan_step r) (eq-eqb _ _ e) o (plan_steps l k))
@@ -273,7 +231,7 @@ module _ (t : Scan) (r : Row) (u : Unused r) (g : Given r) (w : Used r) (n : New
   -- a row of set 0
   module _ (s : Scan) (st : Stands t r) (h : r.set ≡ 0) where
     op_set_0 : within 40 41 r.op ≡ true
-    op_set_0 = simp (h, or-false) at st.op
+    op_set_0 = simp h at st.op
 
     set_0_right : atom_row r || ceiling_row s r ≡ true → set_0_row s r ≡ true
     set_0_right x =
@@ -299,14 +257,14 @@ module _ (t : Scan) (r : Row) (u : Unused r) (g : Given r) (w : Used r) (n : New
         by_number r.op 40 (λ e. (e, λ z. clash (ceiling_right e z) f)) (λ (d : r.op ≢ 40). clash (atom_right (omega arith)) f)
 
   -- what is left is a second ceiling
-  pub second_ceiling : (s : Scan) → Stands t r → misfits s t r ≡ true → (r.op ≡ 40) × (get_or s.ceilings r.p 0 ≢ 0)
+  second_ceiling : (s : Scan) → Stands t r → misfits s t r ≡ true → (r.op ≡ 40) × (get_or s.ceilings r.p 0 ≢ 0)
   second_ceiling s st e =
       ⊎_elim (λ x. second s st (eqb-true _ _ (and_left (eqb r.set 0) _ x)) (not-true _ (and_right (eqb r.set 0) _ x)))
       (λ x. clash (rule_right st (leb-true _ _ (and_left (leb 1 r.set) _ x))) (not-true _ (and_right (leb 1 r.set) _ x)))
       (or_cases (eqb r.set 0 && not (set_0_row s r)) (leb 1 r.set && not (rule_row t r)) e)
 
 -- a row that is in order and of its set's kind breaks the rules by its op or columns
-pub misfits_of : (s t : Scan) (r : Row) → breaks s t r ≡ true → Ordered s r → against_kind s r ≡ false → Stands t r → misfits s t r ≡ true
+misfits_of : (s t : Scan) (r : Row) → breaks s t r ≡ true → Ordered s r → against_kind s r ≡ false → Stands t r → misfits s t r ≡ true
 unfolding breaks
 misfits_of s t r e o a st =
     let i : in_order s r ≡ true = o (λ z. eqb-true _ _ (held (eqb r.set 0) (eqb r.rule 0) st.rule_0 (eq-eqb _ _ z))) in
@@ -316,3 +274,8 @@ misfits_of s t r e o a st =
     left true false x y p q e = e
     left true true x y p q e = absurd (false≢true (sym q))
     left false a x y p q e = absurd (false≢true p)
+
+-- a row that breaks a rule, in which the tests find nothing
+pub only_ceiling : (s t : Scan) (r : Row) → breaks s t r ≡ true → Faultless s t r → (r.op ≡ 40) × (get_or s.ceilings r.p 0 ≢ 0)
+only_ceiling s t r b f =
+    second_ceiling t r f.unused f.given f.used f.new f.constants s f.stands (misfits_of s t r b f.ordered f.kind f.stands)

@@ -9,6 +9,8 @@ use Rattle.causes.specs.declared.Limit.{Limit}
 use Rattle.causes.specs.declared.Limit.TheVariants as limit
 use Rattle.causes.specs.declared.Breach.{Breach}
 use Rattle.causes.specs.declared.Breach.TheVariants as breach
+use Rattle.causes.specs.declared.Section.{Section}
+use Rattle.causes.specs.declared.Section.TheVariants as section
 use Rattle.causes.specs.declared.Lack.{Lack}
 use Rattle.causes.specs.declared.Lack.TheVariants as lack
 use Rattle.causes.specs.declared.Unvalued.{Unvalued}
@@ -32,23 +34,22 @@ Lacks s lack.Condition = (1 ≤ s.set) × (s.reasons ≡ 0) × (s.context ≡ 0)
 Lacks s lack.Body = (1 ≤ s.set) × (s.reasons ≡ 0) × (s.body ≡ 0)
 
 -- Where a row stands: in set 0, among reasons, in the context and the body of an object rule, in those of a meta rule.
-abbrev pub place_of : Scan → Row → ℕ
+abbrev pub place_of : Scan → Row → Section
 place_of t r =
-    if eqb r.set 0 then 0
-    else if eqb r.part 1 then 1
-    else if eqb r.part 2 then (if t.object then 2 else 3)
-    else (if t.object then 4 else 5)
+    if eqb r.set 0 then section.SetZero
+    else if eqb r.part 1 then section.Reasons
+    else if eqb r.part 2 then (if t.object then section.ObjectContext else section.MetaContext)
+    else (if t.object then section.ObjectBody else section.MetaBody)
 
 -- "Set 0 rows .. op 41 .. op 40"; "Reasons use 1; an object rule's context 1 and 2; a meta rule's context 1 to 14."; "Actions of
 -- meta rules: 21 .. 25"; "Steps of plans: 31 .. 36"
-abbrev pub may_stand : ℕ → ℕ → Bool
-may_stand place op =
-    (eqb place 0 && within 40 41 op)
-    || (eqb place 1 && eqb op 1)
-    || (eqb place 2 && within 1 2 op)
-    || (eqb place 3 && within 1 14 op)
-    || (eqb place 4 && within 31 36 op)
-    || (eqb place 5 && within 21 25 op)
+abbrev pub may_stand : Section → ℕ → Bool
+may_stand section.SetZero op = within 40 41 op
+may_stand section.Reasons op = eqb op 1
+may_stand section.ObjectContext op = within 1 2 op
+may_stand section.MetaContext op = within 1 14 op
+may_stand section.ObjectBody op = within 31 36 op
+may_stand section.MetaBody op = within 21 25 op
 
 -- "p is 1 to 255 in ops 1, 2, 21, 31 to 34, 36 and 41, and in 40."
 abbrev pub has_predicate : ℕ → Bool

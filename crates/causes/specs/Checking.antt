@@ -1,18 +1,16 @@
 -- What each part of the tests on a row tells where it finds nothing wrong. Together they are all that the load tests.
-use Rattle.std.specs.Prelude.{◌+◌, ◌≡◌, Bool, true, false, ◌&&◌, ◌||◌, not, leb, eqb}
+use Rattle.std.specs.Prelude.{⊤, Result, MatchResult, ◌+◌, ◌≡◌, Bool, true, false, ◌&&◌, ◌||◌, not, leb, eqb}
 use Rattle.lists.specs.Lists.{within}
 use Rattle.model.specs.declared.Row.{Row}
 use Rattle.model.specs.declared.Scan.{Scan}
 use Rattle.model.specs.Program.{any?, constant?, constant_within}
-use Rattle.model.specs.Load.{in_order, set_0_row, rule_row, new_variable}
-use Rattle.causes.specs.declared.Checked.{Checked}
-use Rattle.causes.specs.declared.Checked.TheVariants as checked
+use Rattle.model.specs.Load.{in_order, against_kind, set_0_row, rule_row, new_variable}
+use Rattle.causes.specs.declared.Breach.{Breach}
 use Rattle.causes.specs.Causes.{Breaches, place_of, may_stand, must_be_zero, must_be_given, must_be_predicate, must_be_flag}
 
 -- a breach that is true, or what holds where there is none
-abbrev pub Checks : Scan → Scan → Row → Type 0 → Checked → Type 0
-Checks s t r holds checked.Right = holds
-Checks s t r holds (checked.Wrong b) = Breaches s t r b
+abbrev pub Checks : Scan → Scan → Row → Type 0 → Result ⊤ Breach → Type 0
+Checks s t r holds c = MatchResult c (λ _. holds) (Breaches s t r)
 
 -- "Set 0 rows have rule 0, part 0": if the last row is one, so has it
 abbrev pub InSetZero : Scan → Type 0
@@ -52,6 +50,17 @@ pub record Constants (r : Row) : Type 0 where
   pub second : eqb r.op 41 && not (constant? r.b) ≡ false
   pub threshold : eqb r.op 40 && not (constant_within 1 65535 r.a) ≡ false
   pub ceiling : eqb r.op 40 && not (constant_within 1 255 r.b) ≡ false
+
+-- all that the tests ask of a row
+pub record Faultless (s t : Scan) (r : Row) : Type 0 where
+  pub ordered : Ordered s r
+  pub kind : against_kind s r ≡ false
+  pub stands : Stands t r
+  pub unused : Unused r
+  pub given : Given r
+  pub used : Used r
+  pub new : New t r
+  pub constants : Constants r
 
 -- 3: the load's tests on op and columns, s being the scan before the row, t as the row finds it
 abbrev pub misfits : Scan → Scan → Row → Bool

@@ -4,7 +4,7 @@
 ghost use Rattle.std.specs.Prelude.{◌≡◌, true, false, ◌≤◌};
 ghost use Rattle.model.specs.Load.{too_many, lacking, against_kind, breaks, valueless};
 ghost use Rattle.rows.specs.Scanning.{Small};
-ghost use Rattle.causes.specs.Checking.{InSetZero, Checks, Ordered, Stands, Unused, Given, Used, New, Constants, misfits};
+ghost use Rattle.causes.specs.Checking.{InSetZero, Checks, Ordered, Stands, Unused, Given, Used, New, Constants, Faultless};
 ghost use Rattle.causes.specs.Causes.{Exceeds, Lacks, Breaches, LacksValue, place_of, may_stand, must_be_predicate, must_be_flag, must_be_zero, must_be_given, names_atom, names_instance};
 
 use model::{Row, Scan};
@@ -26,17 +26,29 @@ pub enum Lack {
     Body,
 }
 
-// 3: the rule of op, part or order that a row breaks. Columns have their number in the line.
+// Where a row stands: in set 0, among reasons, in the context or the body of a rule.
+#[derive(Clone, Copy)]
+pub enum Section {
+    SetZero,
+    Reasons,
+    ObjectContext,
+    MetaContext,
+    ObjectBody,
+    MetaBody,
+}
+
+// 3: the rule of op, part or order that a row breaks.
+// kept: (d) columns by their number in the line: `explain` counts them, and the number is printed; an enum would be made from it and back
 #[derive(Clone, Copy)]
 pub enum Breach {
     SetOrder { last: u32, set: u32 },
     FirstRule { set: u32, rule: u32 },
     RuleOrder { last: u32, rule: u32 },
     PartOrder { last: u32, part: u32 },
-    Kind(bool),
+    Kind { object: bool },
     SetZero(u32),
     NoPart(u32),
-    Op { op: u32, place: u32 },
+    Op { op: u32, place: Section },
     SecondCeiling(u32),
     NotZero { op: u32, column: u32 },
     NoPredicate(u32),
@@ -49,13 +61,6 @@ pub enum Breach {
     NoCeiling,
 }
 
-// What a part of the tests says of a row.
-#[derive(Clone, Copy)]
-enum Checked {
-    Right,
-    Wrong(Breach),
-}
-
 // 4: the variable, 1 to 8, and the column that it stands in.
 #[derive(Clone, Copy)]
 pub struct Unvalued {
@@ -64,6 +69,7 @@ pub struct Unvalued {
 }
 
 // 5: "set over 8, rule over 32, too many rows (in all or of a part) or initial atoms"
+#[tactic(auto, unfolding(model::specs::Load::too_many))]
 pub fn limit_of(s: Scan, r: Row) -> Limit
     requires { too_many s r ≡ true }
     ensures { Exceeds s r result }
@@ -96,114 +102,109 @@ pub fn lack_of(s: Scan) -> Lack
 }
 
 // 3: "both numbered from 1 without gaps, rows by set, rule, part"
-fn order(s: Scan, t: Scan, r: Row) -> Checked
+fn order(s: Scan, t: Scan, r: Row) -> Result<(), Breach>
     requires small { Small s }
     requires in_set_zero { InSetZero s }
     ensures { Checks s t r (Ordered s r) result }
 {
     if r.set != s.set {
         if r.set != s.set + 1 {
-            return Checked::Wrong(Breach::SetOrder {
+            return Err(Breach::SetOrder {
                 last: s.set,
                 set: r.set,
             });
         }
         if r.rule != 1 {
-            return Checked::Wrong(Breach::FirstRule {
+            return Err(Breach::FirstRule {
                 set: r.set,
                 rule: r.rule,
             });
         }
-        return Checked::Right;
+        return Ok(());
     }
     if r.set < 1 {
-        return Checked::Right;
+        return Ok(());
     }
     if r.rule == s.rule {
         if r.part < s.part {
-            return Checked::Wrong(Breach::PartOrder {
+            return Err(Breach::PartOrder {
                 last: s.part,
                 part: r.part,
             });
         }
-        return Checked::Right;
+        return Ok(());
     }
     if r.rule != s.rule + 1 {
-        return Checked::Wrong(Breach::RuleOrder {
+        return Err(Breach::RuleOrder {
             last: s.rule,
             rule: r.rule,
         });
     }
-    Checked::Right
+    Ok(())
 }
 
 // 3: "A set holds one kind, that of its first rule; a row against it is 3."
-fn kind(s: Scan, t: Scan, r: Row) -> Checked
+fn kind(s: Scan, t: Scan, r: Row) -> Result<(), Breach>
     ensures { Checks s t r (against_kind s r ≡ false) result }
 {
     let against = (r.set == s.set)
         & !((r.set == s.set) & (r.rule == s.rule))
         & (s.object & !(r.part == 1) | !s.object & (r.part == 1));
     if against {
-        return Checked::Wrong(Breach::Kind(s.object));
+        return Err(Breach::Kind { object: s.object });
     }
-    Checked::Right
+    Ok(())
 }
 
-// Where a row stands: in set 0, among reasons, in the context and the body of an object rule, in those of a meta rule.
-fn place_of(t: Scan, r: Row) -> u32
+fn place_of(t: Scan, r: Row) -> Section
     ensures { result ≡ place_of t r }
 {
     if r.set == 0 {
-        return 0;
+        return Section::SetZero;
     }
-    if r.part == 1 {
-        return 1;
+    match r.part {
+        1 => Section::Reasons,
+        2 if t.object => Section::ObjectContext,
+        2 => Section::MetaContext,
+        _ if t.object => Section::ObjectBody,
+        _ => Section::MetaBody,
     }
-    if r.part == 2 {
-        if t.object {
-            return 2;
-        }
-        return 3;
-    }
-    if t.object {
-        return 4;
-    }
-    5
 }
 
-fn may_stand(place: u32, op: u32) -> bool
+fn may_stand(place: Section, op: u32) -> bool
     ensures { result ≡ may_stand place op }
 {
-    (place == 0) & ((40 <= op) & (op <= 41))
-        | (place == 1) & (op == 1)
-        | (place == 2) & ((1 <= op) & (op <= 2))
-        | (place == 3) & ((1 <= op) & (op <= 14))
-        | (place == 4) & ((31 <= op) & (op <= 36))
-        | (place == 5) & ((21 <= op) & (op <= 25))
+    match place {
+        Section::SetZero => (40 <= op) & (op <= 41),
+        Section::Reasons => op == 1,
+        Section::ObjectContext => (1 <= op) & (op <= 2),
+        Section::MetaContext => (1 <= op) & (op <= 14),
+        Section::ObjectBody => (31 <= op) & (op <= 36),
+        Section::MetaBody => (21 <= op) & (op <= 25),
+    }
 }
 
 // 3: the row's set, part and op.
-fn standing(s: Scan, t: Scan, r: Row) -> Checked
+fn standing(s: Scan, t: Scan, r: Row) -> Result<(), Breach>
     ensures { Checks s t r (Stands t r) result }
 {
     let has_rule = (r.set == 0) & !(r.rule == 0);
     if has_rule {
-        return Checked::Wrong(Breach::SetZero(2));
+        return Err(Breach::SetZero(2));
     }
     let has_part = (r.set == 0) & !(r.part == 0);
     if has_part {
-        return Checked::Wrong(Breach::SetZero(3));
+        return Err(Breach::SetZero(3));
     }
     let no_part = (1 <= r.set) & !((1 <= r.part) & (r.part <= 3));
     if no_part {
-        return Checked::Wrong(Breach::NoPart(r.part));
+        return Err(Breach::NoPart(r.part));
     }
     let place = place_of(t, r);
     if !may_stand(place, r.op) {
-        return Checked::Wrong(Breach::Op { op: r.op, place });
+        return Err(Breach::Op { op: r.op, place });
     }
-    Checked::Right
+    Ok(())
 }
 
 // "p is 1 to 255 in ops 1, 2, 21, 31 to 34, 36 and 41, and in 40."
@@ -259,147 +260,134 @@ fn must_be_given(op: u32, column: u32, x: u32) -> bool
 }
 
 // 3: the first column that must be 0 and is not.
-fn not_zero(s: Scan, t: Scan, r: Row) -> Checked
+fn not_zero(s: Scan, t: Scan, r: Row) -> Result<(), Breach>
     requires { r.p ≤ 255 }
     ensures { Checks s t r (Unused r) result }
 {
     if must_be_zero(r.op, 5, r.i) {
-        return Checked::Wrong(Breach::NotZero {
+        return Err(Breach::NotZero {
             op: r.op,
             column: 5,
         });
     }
     if must_be_zero(r.op, 6, r.p + 9) {
-        return Checked::Wrong(Breach::NotZero {
+        return Err(Breach::NotZero {
             op: r.op,
             column: 6,
         });
     }
     if must_be_zero(r.op, 7, r.a) {
-        return Checked::Wrong(Breach::NotZero {
+        return Err(Breach::NotZero {
             op: r.op,
             column: 7,
         });
     }
     if must_be_zero(r.op, 8, r.b) {
-        return Checked::Wrong(Breach::NotZero {
+        return Err(Breach::NotZero {
             op: r.op,
             column: 8,
         });
     }
-    Checked::Right
+    Ok(())
 }
 
 // 3: the first column that must be a constant or a variable and is any.
-fn no_value(s: Scan, t: Scan, r: Row) -> Checked
+fn no_value(s: Scan, t: Scan, r: Row) -> Result<(), Breach>
     ensures { Checks s t r (Given r) result }
 {
     if must_be_given(r.op, 5, r.i) {
-        return Checked::Wrong(Breach::NoValue {
+        return Err(Breach::NoValue {
             op: r.op,
             column: 5,
         });
     }
     if must_be_given(r.op, 7, r.a) {
-        return Checked::Wrong(Breach::NoValue {
+        return Err(Breach::NoValue {
             op: r.op,
             column: 7,
         });
     }
     if must_be_given(r.op, 8, r.b) {
-        return Checked::Wrong(Breach::NoValue {
+        return Err(Breach::NoValue {
             op: r.op,
             column: 8,
         });
     }
-    Checked::Right
+    Ok(())
 }
 
 // 3: a predicate, a flag, or an i that must be any.
-fn used(s: Scan, t: Scan, r: Row) -> Checked
+fn used(s: Scan, t: Scan, r: Row) -> Result<(), Breach>
     ensures { Checks s t r (Used r) result }
 {
     if must_be_predicate(r.op, r.p) {
-        return Checked::Wrong(Breach::NoPredicate(r.op));
+        return Err(Breach::NoPredicate(r.op));
     }
     if must_be_flag(r.op, r.a) {
-        return Checked::Wrong(Breach::NoFlag(r.op));
+        return Err(Breach::NoFlag(r.op));
     }
     let made = ((r.op == 34) | (r.op == 36)) & !(r.i == 0);
     if made {
-        return Checked::Wrong(Breach::NotAny(r.op));
+        return Err(Breach::NotAny(r.op));
     }
-    Checked::Right
+    Ok(())
 }
 
 // 3: "its id going to variable i, which has no value yet, or i = -9"
-fn not_new(s: Scan, t: Scan, r: Row) -> Checked
+fn not_new(s: Scan, t: Scan, r: Row) -> Result<(), Breach>
     ensures { Checks s t r (New t r) result }
 {
-    let valued = t.valued;
     if r.op != 21 {
-        return Checked::Right;
+        return Ok(());
     }
     if r.i == 0 {
-        return Checked::Right;
+        return Ok(());
     }
-    if rows::new_variable(valued, r.i) {
-        return Checked::Right;
+    if rows::new_variable(&t.valued, r.i) {
+        return Ok(());
     }
-    Checked::Wrong(Breach::NotNew)
+    Err(Breach::NotNew)
 }
 
 // 3: the constants of set 0.
-fn constants(s: Scan, t: Scan, r: Row) -> Checked
+fn constants(s: Scan, t: Scan, r: Row) -> Result<(), Breach>
     ensures { Checks s t r (Constants r) result }
 {
     let first = (r.op == 41) & !(9 <= r.a);
     if first {
-        return Checked::Wrong(Breach::NoConstant(7));
+        return Err(Breach::NoConstant(7));
     }
     let second = (r.op == 41) & !(9 <= r.b);
     if second {
-        return Checked::Wrong(Breach::NoConstant(8));
+        return Err(Breach::NoConstant(8));
     }
     let threshold = (r.op == 40) & !((10 <= r.a) & (r.a <= 65544));
     if threshold {
-        return Checked::Wrong(Breach::NoThreshold);
+        return Err(Breach::NoThreshold);
     }
     let ceiling = (r.op == 40) & !((10 <= r.b) & (r.b <= 264));
     if ceiling {
-        return Checked::Wrong(Breach::NoCeiling);
+        return Err(Breach::NoCeiling);
     }
-    Checked::Right
+    Ok(())
 }
 
-// 3: the columns i, p, a and b. Where all of them are right the row is a second ceiling.
-fn columns(s: Scan, t: Scan, r: Row) -> Breach
+// 3: the tests in their order. They leave a second ceiling alone.
+fn tested(s: Scan, t: Scan, r: Row) -> Result<(), Breach>
+    requires small { Small s }
+    requires in_set_zero { InSetZero s }
     requires p_bound { r.p ≤ 255 }
-    requires stands { Stands t r }
-    requires r_value { misfits s t r ≡ true }
-    ensures { Breaches s t r result }
+    ensures { Checks s t r (Faultless s t r) result }
 {
-    let zero = not_zero(s, t, r);
-    if let Checked::Wrong(breach) = zero {
-        return breach;
-    }
-    let value = no_value(s, t, r);
-    if let Checked::Wrong(breach) = value {
-        return breach;
-    }
-    let of_use = used(s, t, r);
-    if let Checked::Wrong(breach) = of_use {
-        return breach;
-    }
-    let new = not_new(s, t, r);
-    if let Checked::Wrong(breach) = new {
-        return breach;
-    }
-    let constant = constants(s, t, r);
-    if let Checked::Wrong(breach) = constant {
-        return breach;
-    }
-    Breach::SecondCeiling(r.p)
+    order(s, t, r)?;
+    kind(s, t, r)?;
+    standing(s, t, r)?;
+    not_zero(s, t, r)?;
+    no_value(s, t, r)?;
+    used(s, t, r)?;
+    not_new(s, t, r)?;
+    constants(s, t, r)?;
+    Ok(())
 }
 
 // 3: "row breaks a rule of its op, part or order": s is the scan before the row, t as the row finds it.
@@ -410,34 +398,25 @@ pub fn breach_of(s: Scan, t: Scan, r: Row) -> Breach
     requires r_value { breaks s t r ≡ true }
     ensures { Breaches s t r result }
 {
-    let ordered = order(s, t, r);
-    if let Checked::Wrong(breach) = ordered {
-        return breach;
+    match tested(s, t, r) {
+        Err(breach) => breach,
+        Ok(()) => Breach::SecondCeiling(r.p),
     }
-    let kept = kind(s, t, r);
-    if let Checked::Wrong(breach) = kept {
-        return breach;
-    }
-    let stands = standing(s, t, r);
-    if let Checked::Wrong(breach) = stands {
-        return breach;
-    }
-    columns(s, t, r)
 }
 
 // 4: "body variable without value"
+#[tactic(auto, unfolding(model::specs::Load::valueless, model::specs::Load::new_variable))]
 pub fn unvalued_of(t: Scan, r: Row) -> Unvalued
     requires { valueless t r ≡ true }
     ensures { LacksValue t r result }
 {
-    let valued = t.valued;
-    if rows::new_variable(valued, r.a) {
+    if rows::new_variable(&t.valued, r.a) {
         return Unvalued {
             column: 7,
             variable: 9 - r.a,
         };
     }
-    if rows::new_variable(valued, r.b) {
+    if rows::new_variable(&t.valued, r.b) {
         return Unvalued {
             column: 8,
             variable: 9 - r.b,

@@ -12,7 +12,7 @@ use Rattle.table.specs.Rows.{row, rows}
 use Rattle.table.proofs.Parts.{part, with_part, rest_is, rest_same}
 use Rattle.state.specs.View.{plans_at, plan_of, plan_at, plans_of}
 
--- a call was lent the words behind plans-at, and the marks behind 256
+-- a call was lent the words behind plans_at, and the marks behind 256
 module _ (W ys : List ℕ) (m r : ℕ) (left : List Bool) (long : length W ≡ 2432) where
   pub plans_kept : rows 18 r ys ≡ keep_by (take (length left - 256) (drop 256 left)) (rows 18 m (part plans_at (length W - plans_at) W)) →
       plans_of r (with_part plans_at (length W - plans_at) W ys) ≡ keep_by (drop 256 left) (plans_of m W)

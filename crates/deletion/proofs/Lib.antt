@@ -1,4 +1,3 @@
-pub mod Marks
 pub mod Pass
 pub mod Unlinked
 pub mod Kept

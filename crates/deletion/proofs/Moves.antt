@@ -1,134 +1,18 @@
 -- Words and atoms that go down in runs; what is kept of the atoms run by run.
 use mathlib.Core.Path.{◌≡◌, refl, sym, ap, ◌∙◌, subst}
-use mathlib.Core.Bool.{Bool, true, false, ◌&&◌, false≢true}
+use mathlib.Core.Bool.{Bool, true, false}
 use mathlib.Core.List.{List, [], ◌∷◌, ◌++◌, append_assoc}
 use mathlib.Core.Logic.{⊎_elim, ◌≢◌}
-use Prim.Native.Nat.{ℕ, zero, suc, ◌+◌, ◌-◌, ◌<◌, ◌≤◌}
+use Prim.Native.Nat.{ℕ, zero, suc, ◌+◌, ◌<◌, ◌≤◌}
 use native.Mathlib.Omega.{arith}
-use lib.Dec.{ltb}
-use lib.ListN.{length, get_or, set, drop, length-set}
-use lib.Seq.{get_or-set_same, get_or-set_other, drop-set-lt}
-use borrow.Author.Tests.{ltb-true, ltb-false}
+use lib.ListN.{length, get_or, drop}
 use Rattle.lists.specs.Tables.{tabulate, keep_by}
 use Rattle.lists.proofs.Bind.{append-nil}
 use Rattle.lists.proofs.Tables.{equal_or_not, less_or_more, tabulate_same, keep_by_nil, keep_by_more}
 use Rattle.model.specs.declared.Atom.{Atom}
 use Rattle.state.specs.View.{atom_p, atom_a, atom_b, atom_cycle, plans_at, atom_at, atoms_of}
+use Rattle.state.proofs.Made.{plans_stand}
 use Rattle.deletion.specs.Moves.{Moved, AtomsMoved}
-
-pub less : (i k : ℕ) → i ≢ k → i < k + 1 → i < k
-less i k ne p = ⊎_elim (λ (q : i < k). q) (λ (q : k < i). absurd (omega arith)) (less_or_more i k ne)
-
-pub moved_none : (W : List ℕ) (from to : ℕ) → Moved W from to 0 W
-moved_none W from to = record { long = refl; below = λ j h. refl; here = λ k h. absurd (omega arith); above = λ j h. refl; behind = λ m h. refl }
-
--- one word more, as it stood at first
-pub moved_put : (W X : List ℕ) (from to k : ℕ) → to + k < length W → Moved W from to k X → Moved W from to (k + 1) (set X (to + k) (get_or W (from + k) 0))
-moved_put W X from to k g m = record {
-  long = length-set X (to + k) v ∙ m.long;
-  below = λ j p. get_or-set_other X (to + k) j v 0 (λ e. omega arith) ∙ m.below j p;
-  here = λ i p. ⊎_elim
-      (λ (e : i ≡ k). let z : to + i ≡ to + k = omega arith in let y : from + k ≡ from + i = omega arith in
-      ap (λ (q : ℕ). get_or (set X (to + k) v) q 0) z ∙ get_or-set_same X (to + k) v 0 within ∙ ap (λ (q : ℕ). get_or W q 0) y)
-      (λ (ne : i ≢ k). let fewer : i < k = less i k ne p in get_or-set_other X (to + k) (to + i) v 0 (λ e. omega arith) ∙ m.here i fewer)
-      (equal_or_not i k);
-  above = λ j p. get_or-set_other X (to + k) j v 0 (λ e. omega arith) ∙ m.above j (omega arith);
-  behind = λ q p. drop-set-lt q X (to + k) v (omega arith) ∙ m.behind q (omega arith);
-}
-  where
-    v : ℕ
-    v = get_or W (from + k) 0
-
-    within : to + k < length X
-    within = let l = m.long in omega arith
-
--- the same word read after the others: what goes down was not written yet
-pub moved_one : (W X : List ℕ) (from to k : ℕ) → to ≤ from → from + k < length W → Moved W from to k X →
-    Moved W from to (k + 1) (set X (to + k) (get_or X (from + k) 0))
-moved_one W X from to k h g m =
-    let e : get_or W (from + k) 0 ≡ get_or X (from + k) 0 = sym (m.above (from + k) (omega arith)) in
-    subst (λ (v : ℕ). Moved W from to (k + 1) (set X (to + k) v)) e (moved_put W X from to k (omega arith) m)
-
--- the same by the place that is written
-pub moved_next : (W X : List ℕ) (gap to k : ℕ) → to ≤ k → k + gap < length W → Moved W (to + gap) to (k - to) X →
-    Moved W (to + gap) to (k + 1 - to) (set X k (get_or X (k + gap) 0))
-moved_next W X gap to k g l m =
-    let a : to + (k - to) ≡ k = omega arith in
-    let b : to + gap + (k - to) ≡ k + gap = omega arith in
-    let c : k - to + 1 ≡ k + 1 - to = omega arith in
-    subst (λ (q : ℕ). Moved W (to + gap) to q (set X k (get_or X (k + gap) 0))) c
-    (subst (λ (q : ℕ). Moved W (to + gap) to (k - to + 1) (set X k (get_or X q 0))) b
-    (subst (λ (q : ℕ). Moved W (to + gap) to (k - to + 1) (set X q (get_or X (to + gap + (k - to)) 0))) a
-    (moved_one W X (to + gap) to (k - to) (omega arith) (omega arith) m)))
-
--- eight words, all read before one is written
-pub moved_eight : (W : List ℕ) (from to : ℕ) → to + 8 ≤ length W → Moved W from to 8
-    (set (set (set (set (set (set (set (set W to (get_or W from 0)) (to + 1) (get_or W (from + 1) 0)) (to + 2) (get_or W (from + 2) 0)) (to + 3) (get_or W (from + 3) 0))
-    (to + 4) (get_or W (from + 4) 0)) (to + 5) (get_or W (from + 5) 0)) (to + 6) (get_or W (from + 6) 0)) (to + 7) (get_or W (from + 7) 0))
-moved_eight W from to h =
-    let y : from + 0 ≡ from = omega arith in
-    let z : to + 0 ≡ to = omega arith in
-    let m0 : Moved W from to 1 (set W (to + 0) (get_or W (from + 0) 0)) = moved_put W W from to 0 (omega arith) (moved_none W from to) in
-    let m1 : Moved W from to 1 (set W to (get_or W from 0)) =
-    subst (λ (q : ℕ). Moved W from to 1 (set W q (get_or W from 0))) z (subst (λ (q : ℕ). Moved W from to 1 (set W (to + 0) (get_or W q 0))) y m0) in
-    let m2 = moved_put W _ from to 1 (omega arith) m1 in
-    let m3 = moved_put W _ from to 2 (omega arith) m2 in
-    let m4 = moved_put W _ from to 3 (omega arith) m3 in
-    let m5 = moved_put W _ from to 4 (omega arith) m4 in
-    let m6 = moved_put W _ from to 5 (omega arith) m5 in
-    let m7 = moved_put W _ from to 6 (omega arith) m6 in
-    moved_put W _ from to 7 (omega arith) m7
-
--- two moves in turn, the second from where the first came to
-pub moved_on : (W X Y : List ℕ) (from to k m : ℕ) → to ≤ from → to ≤ k → Moved W from to (k - to) X → Moved X (k + (from - to)) k m Y →
-    Moved W from to (k + m - to) Y
-moved_on W X Y from to k m h g x y = record {
-  long = y.long ∙ x.long;
-  below = λ j p. y.below j (omega arith) ∙ x.below j p;
-  here = λ i p. at i p (ltb i (k - to)) refl;
-  above = λ j p. y.above j (omega arith) ∙ x.above j (omega arith);
-  behind = λ q p. y.behind q (omega arith) ∙ x.behind q (omega arith);
-}
-  where
-    at : (i : ℕ) → i < k + m - to → (t : Bool) → ltb i (k - to) ≡ t → get_or Y (to + i) 0 ≡ get_or W (from + i) 0
-    at i p true r = let f : i < k - to = ltb-true _ _ r in y.below (to + i) (omega arith) ∙ x.here i f
-    at i p false r =
-        let f : k - to ≤ i = ltb-false _ _ r in
-        let z : to + i ≡ k + (i - (k - to)) = omega arith in
-        let w : k + (from - to) + (i - (k - to)) ≡ from + i = omega arith in
-        ap (λ (q : ℕ). get_or Y q 0) z ∙ y.here (i - (k - to)) (omega arith) ∙ ap (λ (q : ℕ). get_or X q 0) w ∙ x.above (from + i) (omega arith)
-
-both : (a b : Bool) → (a && b) ≡ true → (a ≡ true) × (b ≡ true)
-both true b h = (refl, h)
-both false b h = absurd (false≢true h)
-
--- each of eight in turn
-pub eight_true : (f : ℕ → Bool) (c : ℕ) →
-    (((f c && f (c + 1)) && (f (c + 2) && f (c + 3))) && ((f (c + 4) && f (c + 5)) && (f (c + 6) && f (c + 7)))) ≡ true → (k : ℕ) → c ≤ k → k < c + 8 → f k ≡ true
-eight_true f c h k l m = at (k - c) (omega arith) (omega arith)
-  where
-    halves : (((f c && f (c + 1)) && (f (c + 2) && f (c + 3))) ≡ true) × (((f (c + 4) && f (c + 5)) && (f (c + 6) && f (c + 7))) ≡ true)
-    halves = both ((f c && f (c + 1)) && (f (c + 2) && f (c + 3))) ((f (c + 4) && f (c + 5)) && (f (c + 6) && f (c + 7))) h
-
-    low : ((f c && f (c + 1)) ≡ true) × ((f (c + 2) && f (c + 3)) ≡ true)
-    low = both (f c && f (c + 1)) (f (c + 2) && f (c + 3)) halves.0
-
-    high : ((f (c + 4) && f (c + 5)) ≡ true) × ((f (c + 6) && f (c + 7)) ≡ true)
-    high = both (f (c + 4) && f (c + 5)) (f (c + 6) && f (c + 7)) halves.1
-
-    so : (j : ℕ) → f j ≡ true → k ≡ j → f k ≡ true
-    so j t q = ap f q ∙ t
-
-    at : (j : ℕ) → j < 8 → k ≡ c + j → f k ≡ true
-    at zero g q = so c (both (f c) (f (c + 1)) low.0).0 (omega arith)
-    at (suc zero) g q = so (c + 1) (both (f c) (f (c + 1)) low.0).1 (omega arith)
-    at (suc (suc zero)) g q = so (c + 2) (both (f (c + 2)) (f (c + 3)) low.1).0 (omega arith)
-    at (suc (suc (suc zero))) g q = so (c + 3) (both (f (c + 2)) (f (c + 3)) low.1).1 (omega arith)
-    at (suc (suc (suc (suc zero)))) g q = so (c + 4) (both (f (c + 4)) (f (c + 5)) high.0).0 (omega arith)
-    at (suc (suc (suc (suc (suc zero))))) g q = so (c + 5) (both (f (c + 4)) (f (c + 5)) high.0).1 (omega arith)
-    at (suc (suc (suc (suc (suc (suc zero)))))) g q = so (c + 6) (both (f (c + 6)) (f (c + 7)) high.1).0 (omega arith)
-    at (suc (suc (suc (suc (suc (suc (suc zero))))))) g q = so (c + 7) (both (f (c + 6)) (f (c + 7)) high.1).1 (omega arith)
-    at (suc (suc (suc (suc (suc (suc (suc (suc j)))))))) g q = absurd (omega arith)
 
 -- a column that another move leaves as it is
 module _ (W X : List ℕ) (c from to n : ℕ) (h : to ≤ from) (few : from + n ≤ 256) (m : Moved W (c + from) (c + to) n X) where
@@ -251,3 +135,6 @@ run_true ms i r n e f t k p q = ⊎_elim (λ (z : k ≡ i). subst (λ (m : ℕ).
   where
     more : k ≢ i → i + 1 ≤ k
     more ne = ⊎_elim (λ (z : k < i). absurd (omega arith)) (λ (z : i < k). omega arith) (less_or_more k i ne)
+
+-- what `keep_atoms` rests on
+pub ruleset compacting = (compacted_first, compacted_gone, compacted_run, run_true, plans_stand)

@@ -118,15 +118,6 @@ module _ (W : List ℕ) (s : Scalars) (h : SoundWords W s) where
   atom_some : (k : ℕ) → k < s.atoms → atom_id k ≢ 0
   atom_some k hk = let g = h.sound.atom_given (atom_id k) (atom_in k hk) in omega arith
 
-  pub no_atom_zero : s.atoms ≤ index_of 0 (atom_ids_of s.atoms W)
-  no_atom_zero = ⊎_elim
-      (λ (e : ltb k s.atoms ≡ true). let lt : k < s.atoms = ltb-true k s.atoms e in absurd (atom_some k lt (found_atom s.atoms W 0 lt)))
-      (λ (e : ltb k s.atoms ≡ false). ltb-false k s.atoms e)
-      (test (ltb k s.atoms))
-    where
-      k : ℕ
-      k = index_of 0 (atom_ids_of s.atoms W)
-
   plan_some : (k : ℕ) → k < s.plans → plan_id k ≢ 0
   plan_some k hk = let g = h.sound.plan_given (node (plan_at W k)) (node_in k hk) in omega arith
 
@@ -396,3 +387,6 @@ module _ (W : List ℕ) (s : Scalars) (h : SoundWords W s) where
         atoms = marked_like (λ k. k) s.atoms atom_id D (reached (links_in c) t) left same p.marked.atoms;
         plans = marked_like (λ k. 256 + k) s.plans plan_id D (reached (links_in c) t) left same p.marked.plans;
       }
+
+-- what `mark` rests on
+pub ruleset marking = (sound_atoms_rise, sound_plans_rise, marked_none, passed_none, passed_more, passed_all)

@@ -8,7 +8,8 @@ use Prim.Native.Nat.{ℕ, ◌-◌, ◌<◌, ◌≤◌}
 use native.Mathlib.Omega.{arith}
 use lib.Dec.{eqb}
 use borrow.Author.Tests.{eq-eqb, ne_eqb}
-use Rattle.lists.specs.Tables.{tabulate, index_of}
+use Rattle.std.specs.Prelude.{Option, MatchOption, Some, None}
+use Rattle.lists.specs.Tables.{tabulate, index_of, PlaceOf}
 use Rattle.lists.proofs.Tables.{equal_or_not, tabulate_same, tabulate_map, index_tabulated, index_tabulated_is, index_missing}
 use Rattle.model.specs.Configuration.{Plan, with_subgoal}
 use Rattle.model.specs.Deletion.{node}
@@ -21,8 +22,14 @@ use Rattle.deletion.proofs.Pass.{node_in, plans_differ}
 subgoals_are : (n : ℕ) (W : List ℕ) → tabulate n (λ (k : ℕ). (plan_at W k).subgoal) ≡ subgoals_of n W
 subgoals_are n W = tabulate_map (λ (q : Plan). q.subgoal) n (plan_at W)
 
-pub owner_is : (n : ℕ) (W : List ℕ) (t r : ℕ) → r ≤ n → ((k : ℕ) → k < r → (plan_at W k).subgoal ≡ t → ⊥) → (r < n → (plan_at W r).subgoal ≡ t) → r ≡ index_of t (subgoals_of n W)
+owner_is : (n : ℕ) (W : List ℕ) (t r : ℕ) → r ≤ n → ((k : ℕ) → k < r → (plan_at W k).subgoal ≡ t → ⊥) → (r < n → (plan_at W r).subgoal ≡ t) → r ≡ index_of t (subgoals_of n W)
 owner_is n W t r h none here = index_tabulated_is n (λ (k : ℕ). (plan_at W k).subgoal) t r h none here ∙ ap (index_of t) (subgoals_are n W)
+
+-- where a search among the first n plans came to
+pub owner_place : (n : ℕ) (W : List ℕ) (t : ℕ) (r : Option ℕ) → MatchOption r ((k : ℕ) → 0 ≤ k → k < n → (plan_at W k).subgoal ≢ t) (λ i. (0 ≤ i) × (i < n) × ((plan_at W i).subgoal ≡ t) × ((k : ℕ) → 0 ≤ k → k < i → (plan_at W k).subgoal ≢ t)) →
+    PlaceOf n t (subgoals_of n W) r
+owner_place n W t None none = sym (owner_is n W t n (omega arith) (λ k h. none k (omega arith) h) (λ h. absurd (omega arith)))
+owner_place n W t (Some i) h = (owner_is n W t i (omega (arith, h.1)) (λ k p. h.3 k (omega arith) p) (λ g. h.2), h.1)
 
 -- a plan that is not, that is the target's owner
 other_stands : (t : ℕ) (q : Plan) → (t ≡ 0) ⊎ (q.subgoal ≢ t) → unlinked_from t q ≡ q
@@ -44,8 +51,8 @@ unlinked_by n W X t e = tabulate_same n (plan_at X) (λ (k : ℕ). unlinked_from
 pub no_target : (n : ℕ) (W : List ℕ) (t : ℕ) → t ≡ 0 → plans_of n W ≡ map (unlinked_from t) (plans_of n W)
 no_target n W t z = unlinked_by n W W t (λ k h. sym (other_stands t (plan_at W k) (inl z)))
 
-pub no_owner : (n : ℕ) (W : List ℕ) (t k : ℕ) → k ≡ index_of t (subgoals_of n W) → n ≤ k → plans_of n W ≡ map (unlinked_from t) (plans_of n W)
-no_owner n W t k e h = unlinked_by n W W t (λ i hi. sym (other_stands t (plan_at W i) (inr (index_missing n (λ (k : ℕ). (plan_at W k).subgoal) t (rw (subgoals_are n W, ← e) h) i hi))))
+pub no_owner : (n : ℕ) (W : List ℕ) (t k : ℕ) → index_of t (subgoals_of n W) ≡ k → n ≤ k → plans_of n W ≡ map (unlinked_from t) (plans_of n W)
+no_owner n W t k e h = unlinked_by n W W t (λ i hi. sym (other_stands t (plan_at W i) (inr (index_missing n (λ (k : ℕ). (plan_at W k).subgoal) t (rw (subgoals_are n W, e) h) i hi))))
 
 -- two words of the owner are changed
 module _ (W : List ℕ) (s : Scalars) (h : SoundWords W s) (t k v : ℕ) (some : t ≢ 0) (found : k ≡ index_of t (subgoals_of s.plans W)) (there : k < s.plans) (less : v ≡ (plan_at W k).left - 1) where
@@ -81,3 +88,6 @@ module _ (W : List ℕ) (s : Scalars) (h : SoundWords W s) (t k v : ℕ) (some :
 
   pub unlinked_atoms : atoms_of s.atoms after ≡ atoms_of s.atoms W
   unlinked_atoms = plan_word_atoms shorter k 5 0 (omega arith) s.atoms h.few_atoms ∙ plan_word_atoms W k 3 v (omega arith) s.atoms h.few_atoms
+
+-- what `unlink` rests on
+pub ruleset unlinking = (no_target, no_owner, owner_unlinked, unlinked_atoms)

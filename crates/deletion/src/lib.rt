@@ -2,7 +2,7 @@
 #![tactic(auto)]
 
 ghost use Rattle.std.specs.Prelude.{◌≡◌, true, false, map, ℕ, ◌+◌, ◌-◌, ◌<◌, ◌≤◌, length, get_or, drop};
-ghost use Rattle.lists.specs.Tables.{index_of, keep_by};
+ghost use Rattle.lists.specs.Tables.{PlaceOf, keep_by};
 ghost use Rattle.model.specs.Graph.{links, reached};
 ghost use Rattle.model.specs.Events.{gone_by, deletion};
 ghost use Rattle.model.specs.Deletion.{graph, links_in, remove};
@@ -27,31 +27,31 @@ pub struct Near {
 }
 
 // The atom with this id is left no more. Where it stands, by a guess.
+#[tactic(auto, unfolding(crate::specs::Marks::without_atom))]
 fn mark_atom(words: &[u32], atoms: u32, left: &mut [bool], id: u32, guess: usize) -> usize
     requires { (length words.now ≡ 2432) × (atoms ≤ 256) × AtomsRise atoms words.now × (length left.old ≡ 320) }
     ensures { left.new ≡ without_atom words.now atoms id left.old }
 {
-    let k = state::find_near(words, atoms, id, guess);
-    if atoms as usize <= k {
-        return k;
-    }
+    let Some(k) = state::find_near(words, atoms, id, guess) else {
+        return guess;
+    };
     left[k] = false;
     k
 }
 
 // The plan with this id is left no more.
+#[tactic(auto, unfolding(crate::specs::Marks::without_plan))]
 fn mark_plan(words: &[u32], plans: u32, left: &mut [bool], id: u32)
     requires { (length words.now ≡ 2432) × (plans ≤ 64) × PlansRise plans words.now × (length left.old ≡ 320) }
     ensures { left.new ≡ without_plan words.now plans id left.old }
 {
-    let k = state::find_plan(words, plans, id);
-    if plans as usize <= k {
-        return;
+    if let Some(k) = state::find_plan(words, plans, id) {
+        left[256 + k] = false;
     }
-    left[256 + k] = false;
 }
 
 // Whether the atom with this id is gone. Nothing made before the target is.
+#[tactic(auto, unfolding(crate::specs::Marks::atom_gone))]
 fn atom_gone(words: &[u32], atoms: u32, target: u32, left: &[bool], id: u32, guess: usize) -> bool
     requires { (length words.now ≡ 2432) × (atoms ≤ 256) × AtomsRise atoms words.now × (length left.now ≡ 320) }
     ensures { result ≡ atom_gone words.now atoms target left.now id }
@@ -59,14 +59,14 @@ fn atom_gone(words: &[u32], atoms: u32, target: u32, left: &[bool], id: u32, gue
     if id < target {
         return false;
     }
-    let place = state::find_near(words, atoms, id, guess);
-    if atoms as usize <= place {
-        return false;
+    match state::find_near(words, atoms, id, guess) {
+        Some(place) => !left[place],
+        None => false,
     }
-    !left[place]
 }
 
 // Whether plan i goes: it is the target, or one of its justifications is gone. Most that go have the first where it is guessed.
+#[tactic(auto, unfolding(crate::specs::Marks::plan_goes))]
 fn plan_goes(words: &[u32], atoms: u32, target: u32, left: &[bool], i: usize, guess: usize) -> bool
     requires { (length words.now ≡ 2432) × (atoms ≤ 256) × AtomsRise atoms words.now × (length left.now ≡ 320) × (i < 64) }
     ensures { result ≡ plan_goes words.now atoms target left.now i }
@@ -94,6 +94,7 @@ fn plan_goes(words: &[u32], atoms: u32, target: u32, left: &[bool], i: usize, gu
 }
 
 // Plan i goes or stays; if it goes, its subgoal goes with it.
+#[tactic(auto, unfolding(crate::specs::Marks::visited))]
 fn visit(words: &[u32], atoms: u32, target: u32, left: &mut [bool], i: usize, near: Near) -> Near
     requires { (length words.now ≡ 2432) × (atoms ≤ 256) × AtomsRise atoms words.now × (length left.old ≡ 320) × (i < 64) }
     ensures { left.new ≡ visited words.now atoms target i left.old }
@@ -103,51 +104,39 @@ fn visit(words: &[u32], atoms: u32, target: u32, left: &mut [bool], i: usize, ne
     }
     left[256 + i] = false;
     let justification = state::plan_justification(words, i, 0);
-    let first = state::find_near(words, atoms, justification, near.first);
+    let first = state::find_near(words, atoms, justification, near.first).unwrap_or(near.first);
     let id = state::plan_subgoal(words, i);
     let subgoal = mark_atom(words, atoms, left, id, near.subgoal);
-    Near {
-        first: first,
-        subgoal: subgoal,
-    }
+    Near { first, subgoal }
 }
 
 // What the target reaches is left no more: the target itself, then plan by plan in rising id.
+#[tactic(auto, using(crate::proofs::Pass::marking))]
 fn mark(words: &[u32], scalars: Scalars, target: u32, left: &mut [bool])
     requires { SoundWords words.now scalars × (length left.old ≡ 320) × ((k : ℕ) → k < 320 → get_or left.old k false ≡ true) }
     ensures { Marked words.now scalars (reached (links_in (config_of words.now scalars)) target) left.new }
 {
     let place = mark_atom(words, scalars.atoms, left, target, 0);
     mark_plan(words, scalars.plans, left, target);
-    let n = scalars.plans as usize;
     let mut near = Near {
         first: place,
         subgoal: place,
     };
-    let mut i: usize = 0;
-    while i < n {
+    for i in 0..scalars.plans as usize {
         near = visit(words, scalars.atoms, target, left, i, near);
-        i += 1;
     }
 }
 
-// Where the first plan stands whose subgoal is the target; the count if there is none.
-fn find_owner(words: &[u32], plans: u32, target: u32) -> usize
+// Where the first plan stands whose subgoal is the target, if there is one.
+fn find_owner(words: &[u32], plans: u32, target: u32) -> Option<usize>
     requires { (length words.now ≡ 2432) × (plans ≤ 64) }
-    ensures { result ≡ index_of target (subgoals_of plans words.now) }
+    ensures { PlaceOf plans target (subgoals_of plans words.now) result }
 {
-    let n = plans as usize;
-    let mut i: usize = 0;
-    while i < n {
-        if state::plan_subgoal(words, i) == target {
-            return i;
-        }
-        i += 1;
-    }
-    i
+    (0..plans as usize).find(|k| state::plan_subgoal(words, *k) == target)
 }
 
 // The plan whose subgoal is the target loses it, and its first step. No other surviving plan loses its subgoal.
+#[tactic(auto, using(crate::proofs::Unlinked::unlinking))]
 fn unlink(words: &mut [u32], scalars: Scalars, target: u32)
     requires { SoundWords words.old scalars }
     ensures atoms { atoms_of scalars.atoms words.new ≡ atoms_of scalars.atoms words.old }
@@ -156,67 +145,19 @@ fn unlink(words: &mut [u32], scalars: Scalars, target: u32)
     if target == 0 {
         return;
     }
-    let plans = scalars.plans;
-    let k = find_owner(words, plans, target);
-    if plans as usize <= k {
-        return;
+    if let Some(k) = find_owner(words, scalars.plans, target) {
+        let left = state::plan_left(words, k);
+        state::put_plan_word(words, k, 3, state::one_less(left));
+        state::put_plan_word(words, k, 5, 0);
     }
-    let left = state::plan_left(words, k);
-    state::put_plan_word(words, k, 3, state::one_less(left));
-    state::put_plan_word(words, k, 5, 0);
 }
 
-// Eight words go down from k + gap to k. All are read before one is written, so that two wide moves do it, whatever the gap.
-fn move_eight(words: &mut [u32], k: usize, gap: usize)
-    requires { k + gap + 8 ≤ length words.old }
-    ensures { Moved words.old (k + gap) k 8 words.new }
-{
-    let from = k + gap;
-    let first = words[from];
-    let second = words[from + 1];
-    let third = words[from + 2];
-    let fourth = words[from + 3];
-    let fifth = words[from + 4];
-    let sixth = words[from + 5];
-    let seventh = words[from + 6];
-    let eighth = words[from + 7];
-    words[k] = first;
-    words[k + 1] = second;
-    words[k + 2] = third;
-    words[k + 3] = fourth;
-    words[k + 4] = fifth;
-    words[k + 5] = sixth;
-    words[k + 6] = seventh;
-    words[k + 7] = eighth;
-}
-
-// Of some words that go down, whole eights; how far they came.
-fn move_eights(words: &mut [u32], from: usize, to: usize, n: usize) -> usize
-    requires { (to ≤ from) × (from + n ≤ length words.old) }
-    ensures { (to ≤ result) × (result ≤ to + n) × Moved words.old from to (result - to) words.new }
-{
-    let gap = from - to;
-    let end = to + n;
-    let mut k = to;
-    while 8 <= end - k {
-        move_eight(words, k, gap);
-        k += 8;
-    }
-    k
-}
-
-// Some words, from `from` on, go down to `to`: by eights, then one after the other.
+// Some words, from `from` on, go down to `to`.
 fn move_down(words: &mut [u32], from: usize, to: usize, n: usize)
     requires { (to ≤ from) × (from + n ≤ length words.old) }
     ensures { Moved words.old from to n words.new }
 {
-    let gap = from - to;
-    let end = to + n;
-    let mut k = move_eights(words, from, to, n);
-    while k < end {
-        words[k] = words[k + gap];
-        k += 1;
-    }
+    words.copy_within(from..from + n, to);
 }
 
 // A run of atoms goes down, column by column.
@@ -236,11 +177,11 @@ fn all_left(left: &[bool], k: usize) -> bool
     requires { k + 8 ≤ length left.now }
     ensures { result ≡ true → ((i : ℕ) → k ≤ i → i < k + 8 → get_or left.now i false ≡ true) }
 {
-    let first = left[k] & left[k + 1];
-    let second = left[k + 2] & left[k + 3];
-    let third = left[k + 4] & left[k + 5];
-    let fourth = left[k + 6] & left[k + 7];
-    (first & second) & (third & fourth)
+    let mut all = true;
+    for i in k..k + 8 {
+        all &= left[i];
+    }
+    all
 }
 
 // From `from` on, past eights of atoms that are left.
@@ -248,14 +189,13 @@ fn pass_left(left: &[bool], from: usize, n: usize) -> usize
     requires { (from ≤ n) × (n ≤ length left.now) }
     ensures { (from ≤ result) × (result ≤ n) × ((k : ℕ) → from ≤ k → k < result → get_or left.now k false ≡ true) }
 {
-    let mut k = from;
-    while 8 <= n - k {
+    let end = n - (n - from) % 8;
+    for k in (from..end).step_by(8) {
         if !all_left(left, k) {
             return k;
         }
-        k += 8;
     }
-    k
+    end
 }
 
 // Where a run of atoms that are left ends.
@@ -263,17 +203,16 @@ fn run_end(left: &[bool], from: usize, n: usize) -> usize
     requires { (from ≤ n) × (n ≤ length left.now) }
     ensures { (from ≤ result) × (result ≤ n) × ((k : ℕ) → from ≤ k → k < result → get_or left.now k false ≡ true) }
 {
-    let mut k = pass_left(left, from, n);
-    while k < n {
+    for k in pass_left(left, from, n)..n {
         if !left[k] {
             return k;
         }
-        k += 1;
     }
-    k
+    n
 }
 
 // The atoms that are left, in their order; their number. The plans stand. Runs are moved whole.
+#[tactic(auto, using(crate::proofs::Moves::compacting))]
 fn keep_atoms(words: &mut [u32], atoms: u32, left: &[bool]) -> u32
     requires { (length words.old ≡ 2432) × (atoms ≤ 256) × (length left.now ≡ 320) }
     ensures kept { (result ≤ atoms) × (atoms_of result words.new ≡ keep_by left.now (atoms_of atoms words.old)) }
@@ -282,6 +221,7 @@ fn keep_atoms(words: &mut [u32], atoms: u32, left: &[bool]) -> u32
     let n = atoms as usize;
     let mut i = run_end(left, 0, n);
     let mut j = i;
+    // kept: no plainer otherwise. The index jumps to the end of each run that was moved.
     while i < n {
         if !left[i] {
             i += 1;
@@ -296,6 +236,7 @@ fn keep_atoms(words: &mut [u32], atoms: u32, left: &[bool]) -> u32
 }
 
 // The plans that are left, in their order; their number. The atoms stand.
+#[tactic(auto, using(crate::proofs::Kept::plans_kept, state::proofs::Made::atoms_stand))]
 fn keep_plans(words: &mut [u32], plans: u32, left: &[bool]) -> u32
     requires { (length words.old ≡ 2432) × (plans ≤ 64) × (length left.now ≡ 320) }
     ensures kept { (result ≤ plans) × (plans_of result words.new ≡ keep_by (drop 256 left.now) (plans_of plans words.old)) }

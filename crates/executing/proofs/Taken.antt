@@ -1,16 +1,16 @@
 -- The model's step by its op; the parts of a step; the plan that is taken and its first step.
-use Rattle.std.specs.Prelude.{if◌then◌else◌}
+use Rattle.std.specs.Prelude.{if◌then◌else◌, Option, is_some}
 use mathlib.Core.Path.{◌≡◌, refl, sym, ap, ◌∙◌}
 use mathlib.Core.Bool.{Bool, true, false}
 use mathlib.Core.Logic.{◌≢◌}
-use mathlib.Core.List.{List}
+use mathlib.Core.List.{List, [], ◌∷◌}
 use Prim.Native.Nat.{ℕ, ◌<◌, ◌≤◌}
 use native.Mathlib.Omega.{arith}
 use lib.Dec.{ltb}
 use lib.ListN.{length}
 use borrow.Author.Tests.{eq-eqb, ne_eqb}
 use Rattle.lists.specs.Lists.{when, first_of}
-use Rattle.lists.specs.Tables.{index_of}
+use Rattle.lists.specs.Tables.{PlaceOf}
 use Rattle.model.specs.declared.Row.{Row}
 use Rattle.model.specs.Configuration.{Plan, Config, last_next, operand, remainder, atom_alive, with_waiting}
 use Rattle.model.specs.Log as Log
@@ -20,7 +20,7 @@ use Rattle.state.specs.declared.Scalars.{Scalars}
 use Rattle.state.specs.View.{atom_ids_of, config_of, atom_bar}
 use Rattle.state.proofs.Live.{found_atom_alive}
 use Rattle.state.proofs.Room.{atoms_of_bar, bar_free}
-use Rattle.stepping.proofs.Room.{atom_barred, atom_free}
+use Rattle.stepping.proofs.Room.{found, atom_barred, atom_free}
 use Rattle.executing.specs.Exec.{delete_step, subgoal_step}
 use Rattle.executing.proofs.Places.{at_none, at_first}
 
@@ -76,14 +76,14 @@ module _ (words : List ℕ) (s : Scalars) (p a b k bar : ℕ) (e : bar ≡ atom_
   subgoal_free z = atom_free L _ (met ∙ z)
 
 -- the atom that a step deletes
-module _ (words : List ℕ) (s : Scalars) (k t i : ℕ) (e : i ≡ index_of t (atom_ids_of s.atoms words)) where
-  found_alive : ltb i s.atoms ≡ atom_alive (config_of words s) t
-  found_alive = ap (λ (n : ℕ). ltb n s.atoms) e ∙ found_atom_alive words s t
+module _ (words : List ℕ) (s : Scalars) (k t : ℕ) (r : Option ℕ) (f : PlaceOf s.atoms t (atom_ids_of s.atoms words) r) where
+  found_alive : is_some r ≡ atom_alive (config_of words s) t
+  found_alive = sym (found s.atoms t (atom_ids_of s.atoms words) r f) ∙ found_atom_alive words s t
 
-  pub delete_fails : ltb i s.atoms ≡ false → delete_step k t (begin (config_of words s)) ≡ fail k (begin (config_of words s))
+  pub delete_fails : is_some r ≡ false → delete_step k t (begin (config_of words s)) ≡ fail k (begin (config_of words s))
   delete_fails h = let z = sym found_alive ∙ h in rw z
 
-  pub delete_goes : ltb i s.atoms ≡ true → delete_step k t (begin (config_of words s)) ≡ accepted (emit_deletion t (report (executed k Log.done) (quiet (λ c. set_stepped k (remove_step k c)) (begin (config_of words s)))))
+  pub delete_goes : is_some r ≡ true → delete_step k t (begin (config_of words s)) ≡ accepted (emit_deletion t (report (executed k Log.done) (quiet (λ c. set_stepped k (remove_step k c)) (begin (config_of words s)))))
   unfolding succeed and_then
   delete_goes h = let z = sym found_alive ∙ h in rw z
 
@@ -98,18 +98,19 @@ module _ (c : Config) where
   end_free e = rw (ne_eqb c.cycle 65535 e)
 
 -- the first step of a remainder
-module _ (q : Plan) (R : List Row) (L : Log) (x : Row) (found : Bool) (e : when found x ≡ first_of R) where
-  pub plan_empty : found ≡ false → execute_plan q R L ≡ pass_over q Log.empty L
+module _ (q : Plan) (R : List Row) (L : Log) where
+  pub plan_empty : [] ≡ first_of R → execute_plan q R L ≡ pass_over q Log.empty L
   unfolding execute_plan
-  plan_empty h = at_none (λ (l : List Row). execute_plan q l L) R (sym e ∙ ap (λ (b : Bool). when b x) h)
+  plan_empty e = at_none (λ (l : List Row). execute_plan q l L) R (sym e)
 
-  pub plan_held : found ≡ true → q.subgoal ≢ 0 → execute_plan q R L ≡ pass_over q Log.held L
+module _ (q : Plan) (R : List Row) (L : Log) (x : Row) (e : x ∷ [] ≡ first_of R) where
+  pub plan_held : q.subgoal ≢ 0 → execute_plan q R L ≡ pass_over q Log.held L
   unfolding execute_plan
-  plan_held h z = at_first (λ (l : List Row). execute_plan q l L) R x _ (sym e ∙ ap (λ (b : Bool). when b x) h) (λ m. rw (ne_eqb q.subgoal 0 z))
+  plan_held z = at_first (λ (l : List Row). execute_plan q l L) R x _ (sym e) (λ m. rw (ne_eqb q.subgoal 0 z))
 
-  pub plan_steps : found ≡ true → q.subgoal ≡ 0 → execute_plan q R L ≡ take_step q x L
+  pub plan_steps : q.subgoal ≡ 0 → execute_plan q R L ≡ take_step q x L
   unfolding execute_plan
-  plan_steps h z = at_first (λ (l : List Row). execute_plan q l L) R x _ (sym e ∙ ap (λ (b : Bool). when b x) h) (λ m. rw (eq-eqb q.subgoal 0 z))
+  plan_steps z = at_first (λ (l : List Row). execute_plan q l L) R x _ (sym e) (λ m. rw (eq-eqb q.subgoal 0 z))
 
 -- the first of the plans that are due
 module _ (program : List Row) (c : Config) (due : List Plan) (q : Plan) (there : Bool) (e : first_of due ≡ when there q) where

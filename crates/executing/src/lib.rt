@@ -153,9 +153,8 @@ fn add_atom(words: &mut [u32], scalars: Scalars, k: usize, p: u32, a: u32, b: u3
     ensures result_after { answered_by scalars.next words.new result ≡ answer_of (config_of words.old scalars) (and_then (make_atom p a b (begin (config_of words.old scalars))) (succeed (plan_at words.old k).id)) }
     ensures untouched { result.number ≢ 0 → words.new ≡ words.old }
 {
-    let bar = state::room_for_atom(scalars);
-    if bar != 0 {
-        return stepping::barred(scalars, bar);
+    if let Err(refusal) = state::room_for_atom(scalars) {
+        return stepping::barred(scalars, refusal.number());
     }
     let made = state::append_atom(words, scalars, p, a, b);
     done(words, made, k)
@@ -167,8 +166,7 @@ fn delete_atom(words: &mut [u32], scalars: Scalars, k: usize, id: u32) -> Progre
     ensures result_after { answered_by scalars.next words.new result ≡ answer_of (config_of words.old scalars) (delete_step (plan_at words.old k).id id (begin (config_of words.old scalars))) }
     ensures number { result.number ≡ 0 }
 {
-    let i = state::find_atom(words, scalars.atoms, id);
-    if scalars.atoms as usize <= i {
+    if state::find_atom(words, scalars.atoms, id).is_none() {
         return failed(words, scalars, k);
     }
     let plan = state::plan_id(words, k);
@@ -192,9 +190,8 @@ fn add_subgoal(words: &mut [u32], scalars: Scalars, k: usize, p: u32, a: u32, b:
     ensures result_after { answered_by scalars.next words.new result ≡ answer_of (config_of words.old scalars) (subgoal_step (plan_at words.old k).id p a b (begin (config_of words.old scalars))) }
     ensures untouched { result.number ≢ 0 → words.new ≡ words.old }
 {
-    let bar = state::room_for_atom(scalars);
-    if bar != 0 {
-        return stepping::barred(scalars, bar);
+    if let Err(refusal) = state::room_for_atom(scalars) {
+        return stepping::barred(scalars, refusal.number());
     }
     let plan = state::plan_id(words, k);
     let made = state::add_subgoal(words, scalars, k, p, a, b);
@@ -262,14 +259,12 @@ fn execute_plan(program: &[u32], words: &mut [u32], scalars: Scalars, k: usize) 
     ensures untouched { result.number ≢ 0 → words.new ≡ words.old }
 {
     let body = plan_steps::body_of(program, words, k);
-    let x = plan_steps::next_step(program, words, k, body);
-    if !x.found {
+    let Some(row) = plan_steps::next_step(program, words, k, body) else {
         return pass_over(words, scalars, k, How::Empty);
-    }
+    };
     if state::plan_subgoal(words, k) != 0 {
         return pass_over(words, scalars, k, How::Held);
     }
-    let row = x.row;
     take_step(words, scalars, k, row)
 }
 

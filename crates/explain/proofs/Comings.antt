@@ -1,14 +1,14 @@
 -- The load of a text, line by line: what each way through the code's loop says of the cause.
 use mathlib.Core.Path.{◌≡◌, refl, ap, sym, subst, ◌∙◌}
 use mathlib.Core.Logic.{⊎_elim, ◌≢◌}
-use mathlib.Core.Bool.{Bool, true, false, not}
+use mathlib.Core.Bool.{Bool, true, false}
 use mathlib.Core.List.{List, [], ◌∷◌, ◌++◌}
 use mathlib.Core.Option.{Option, none, some}
 use Prim.Native.Nat.{ℕ, ◌+◌, ◌-◌, ◌≤◌, ◌<◌}
 use native.Mathlib.Omega.{arith}
 use lib.Dec.{eqb}
 use lib.ListN.{length, drop, take, get_or}
-use borrow.Author.Tests.{not-true, not-false, eqb-true, eqb-false}
+use borrow.Author.Tests.{eqb-true, eqb-false}
 use Rattle.lists.specs.Lists.{same}
 use Rattle.lists.proofs.Lists.{test, clash}
 use Rattle.model.specs.declared.Row.{Row}
@@ -21,10 +21,12 @@ use Rattle.program_laws.proofs.WellFormed.{RowInRange, line_in_range}
 use Rattle.lists.proofs.Tests.{same_equal, same_self}
 use Rattle.program_laws.proofs.Places.{comes_so_far, row_passes, passes_of}
 use Rattle.text.specs.Reading.{Ends, line_of, as_line}
-use Rattle.text.specs.declared.Line.TheVariants.{Whole, Unread}
+use Rattle.std.specs.Prelude.{Ok, Err, Some, None}
+use Rattle.model.specs.declared.refusal.LoadError.{LoadError}
+use Rattle.model.specs.Refusals as Refusals
+use Rattle.rows.specs.declared.RuleScan.{RuleScan}
 use Rattle.text.proofs.Ends.{lines_end, newline_at}
 use Rattle.rows.specs.Scanning.{whole as scanned, Small, verdict_of}
-use Rattle.rows.specs.declared.Verdict.{Verdict}
 use Rattle.rows.proofs.Scans.{small_first, passed_counts}
 use Rattle.program.proofs.Loads.{no_line, wrong_names}
 use Rattle.causes.specs.declared.Lack.{Lack}
@@ -34,7 +36,7 @@ use Rattle.explain.specs.declared.Layout.TheVariants as layout
 use Rattle.explain.specs.declared.Cause.{Cause}
 use Rattle.explain.specs.declared.Cause.TheVariants as cause
 use Rattle.explain.specs.Explaining.{bytes_of, ComesTo, Misread, OfRow, number_of, told_by, Told, loads, not_names, not_ended, misread, of_row, at_end}
-use Rattle.explain.proofs.Verdicts.{of_row_number, verdict_refused}
+use Rattle.explain.proofs.Verdicts.{of_row_number}
 
 module _ (text : List ℕ) {first : ℕ} (w : Ends text 0 first) where
   -- with no byte 10 there is no line
@@ -56,12 +58,12 @@ module _ (text : List ℕ) {first : ℕ} (w : Ends text 0 first) where
   first_line : first < length text → lines text ≡ line (take first text) (lines (drop (first + 1) text))
   first_line h = let e : first - 0 ≡ first = omega arith in subst (λ (n : ℕ). lines text ≡ line (take n text) (lines (drop (first + 1) text))) e (w.ended h)
 
-  pub names_wrong : {b : Bool} → first < length text → b ≡ same (take first text) names → not b ≡ true
+  pub names_wrong : {b : Bool} → first < length text → b ≡ same (take first text) names → b ≡ false
       → Told text (record { cause = cause.Layout layout.Names; line = 1; begin = 0; end = first })
   names_wrong {b} h q e = record {
     answers = ap told_by (wrong_names text w h q e).is;
     bounds = w;
-    explains = not_names refl (λ ls l. let f = first_line h in let n : take first text ≡ names = cc in clash (rw n (same_self names)) (sym q ∙ not-true b e));
+    explains = not_names refl (λ ls l. let f = first_line h in let n : take first text ≡ names = cc in clash (rw n (same_self names)) (sym q ∙ e));
   }
 
 -- the load stands at a place of the text
@@ -73,10 +75,10 @@ pub record Standing (text : List ℕ) (s : Scan) (at : ℕ) : Type 0 where
   pub comes : Comes text s rows (lines (drop at text))
 
 pub standing_first : (text : List ℕ) {first : ℕ} (w : Ends text 0 first) (s : Scan) {b : Bool} → first < length text → b ≡ same (take first text) names
-    → not b ≡ false → s ≡ at_first → Standing text s (first + 1)
+    → b ≡ true → s ≡ at_first → Standing text s (first + 1)
 standing_first text {first} w s {b} h q e z =
     let n : first + 1 - 1 ≡ first = omega arith in
-    let m : take first text ≡ names = same_equal (take first text) names (sym q ∙ not-false b e) in
+    let m : take first text ≡ names = same_equal (take first text) names (sym q ∙ e) in
     rw z (record {
       inside = omega arith;
       small = small_first;
@@ -126,22 +128,22 @@ module _ {text : List ℕ} {s : Scan} {at : ℕ} (w : Standing text s at) where
           let l : load text ≡ refused 2 (s.count + 2) = comes_so_far at_line.comes ∙ rw e in
           record { answers = ap told_by l; bounds = c; explains = misread at_line e x }
 
-      module _ {row : Row} (e : read_row (bytes_of text at to) ≡ some row) (v : Verdict) (D : List ℕ) (f : verdict_of v D ≡ take_row s row) where
-        pub told_row : (m : Cause) → v.number ≢ 0 → OfRow s row m → Told text (record { cause = m; line = v.line; begin = at; end = to })
+      module _ {row : Row} (e : read_row (bytes_of text at to) ≡ some row) where
+        pub told_row : (f : LoadError) (m : Cause) → take_row s row ≡ refused_at (Refusals.number_of f.refusal) f.line → OfRow s row m
+            → Told text (record { cause = m; line = f.line; begin = at; end = to })
         unfolding load_lines take_line go_on
-        told_row m z x =
-            let q : take_row s row ≡ refused_at v.number v.line = sym f ∙ verdict_refused v D z in
-            let n : number_of m ≡ v.number = of_row_number x q in
-            let l : load text ≡ refused v.number v.line = comes_so_far at_line.comes ∙ rw (e, q) in
+        told_row f m q x =
+            let n : number_of m ≡ Refusals.number_of f.refusal = of_row_number x q in
+            let l : load text ≡ refused (Refusals.number_of f.refusal) f.line = comes_so_far at_line.comes ∙ rw (e, q) in
             record { answers = rw n (ap told_by l); bounds = c; explains = of_row at_line e x }
 
-        pub row_taken : v.number ≡ 0 → Standing text (scanned v.scan D) (to + 1)
+        pub row_taken : (v : RuleScan) (D : List ℕ) → verdict_of (Ok v) D ≡ take_row s row → Standing text (scanned v D) (to + 1)
         unfolding verdict_of
-        row_taken z =
-            let q : take_row s row ≡ passed (scanned v.scan D) = sym f ∙ rw z in
-            let p = passed_counts row (scanned v.scan D) w.small q in
+        row_taken v D f =
+            let q : take_row s row ≡ passed (scanned v D) = sym f in
+            let p = passed_counts row (scanned v D) w.small q in
             let g = row_passes s row (passes_of s row q) in
-            let t : taken (begun s row) row ≡ scanned v.scan D = cc in
+            let t : taken (begun s row) row ≡ scanned v D = cc in
             let n : to + 1 - 1 ≡ to = omega arith in
             record {
               inside = omega arith;
@@ -151,20 +153,25 @@ module _ {text : List ℕ} {s : Scan} {at : ℕ} (w : Standing text s at) where
               comes = subst (λ (t : Scan). Comes text t (w.rows ++ (row ∷ [])) (lines (drop (to + 1) text))) t (behind_row at_line.comes e (passes_of s row q));
             }
 
+-- what a refused row's answer says
+pub refusal_of : (s : Scan) (row : Row) (f : LoadError) (D : List ℕ) → verdict_of (Err f) D ≡ take_row s row → take_row s row ≡ refused_at (Refusals.number_of f.refusal) f.line
+unfolding verdict_of
+refusal_of s row f D e = sym e
+
 -- what the line reader answers
-pub unread_line : (bytes : List ℕ) → Unread ≡ line_of bytes → read_row bytes ≡ none
+pub unread_line : (bytes : List ℕ) → None ≡ line_of bytes → read_row bytes ≡ none
 unfolding line_of
 unread_line bytes u = go (read_row bytes) refl u
   where
-    go : (o : Option Row) → read_row bytes ≡ o → Unread ≡ as_line o → read_row bytes ≡ none
+    go : (o : Option Row) → read_row bytes ≡ o → None ≡ as_line o → read_row bytes ≡ none
     go none q u = q
     go (some r) q u = let z : ◌≡◌ {A = ℕ} 0 1 = cc in absurd (omega arith)
 
-pub whole_line : (bytes : List ℕ) {row : Row} → Whole row ≡ line_of bytes → read_row bytes ≡ some row
+pub whole_line : (bytes : List ℕ) {row : Row} → Some row ≡ line_of bytes → read_row bytes ≡ some row
 unfolding line_of
 whole_line bytes {row} u = go (read_row bytes) refl u
   where
-    go : (o : Option Row) → read_row bytes ≡ o → Whole row ≡ as_line o → read_row bytes ≡ some row
+    go : (o : Option Row) → read_row bytes ≡ o → Some row ≡ as_line o → read_row bytes ≡ some row
     go none q u = let z : ◌≡◌ {A = ℕ} 0 1 = cc in absurd (omega arith)
     go (some r) q u = let f : r ≡ row = cc in q ∙ ap some f
 

@@ -16,8 +16,7 @@ use Rattle.program_laws.proofs.Tests.{and_left, and_right, or_neither_left}
 use Rattle.model.specs.declared.Row.{Row}
 use Rattle.model.specs.Text.{read_row}
 use Rattle.text.specs.Reading.{int_at, as_line, row_line, line_of}
-use Rattle.text.specs.declared.Read.TheVariants.{Number}
-use Rattle.text.specs.declared.Line.TheVariants.{Whole, Unread}
+use Rattle.std.specs.Prelude.{Some, None}
 use Rattle.text.proofs.Cells.{whole}
 use Rattle.text.proofs.Columns.{Columns, columns_begin, next_column, whole_line, got}
 use Rattle.explain.specs.declared.Layout.TheVariants as layout
@@ -55,12 +54,12 @@ to_264 : (x : ℕ) → not (within 9 264 x) ≡ false → (9 ≤ x) × (x ≤ 26
 to_264 x e = let t = not-false (within 9 264 x) e in (leb-true 9 x (and_left (leb 9 x) (leb x 264) t), leb-true x 264 (and_right (leb 9 x) (leb x 264) t))
 
 -- eight numbers in range are a row
-row_whole : (v : List ℕ) → ((k : ℕ) → k + 1 < 9 → outside (k + 1) (get_or v k 0) ≡ false) → (r : Row) × (Whole r ≡ row_line v)
+row_whole : (v : List ℕ) → ((k : ℕ) → k + 1 < 9 → outside (k + 1) (get_or v k 0) ≡ false) → (r : Row) × (Some r ≡ row_line v)
 row_whole v f =
     let p = to_264 (get_or v 5 0) (f 5 (omega arith)) in
     (_, whole v (from_9 (get_or v 0 0) (f 0 (omega arith))) (from_9 (get_or v 1 0) (f 1 (omega arith))) (from_9 (get_or v 2 0) (f 2 (omega arith))) (from_9 (get_or v 3 0) (f 3 (omega arith))) p.0 p.1)
 
-module _ {line : List ℕ} {column at : ℕ} (w : Before line column at) (few : column ≤ 8) {x n : ℕ} (e : int_at line at ≡ Number x (record { at = n })) (inside : outside column x ≡ false) where
+module _ {line : List ℕ} {column at : ℕ} (w : Before line column at) (few : column ≤ 8) {x n : ℕ} (e : int_at line at ≡ Some (record { value = x; next = n })) (inside : outside column x ≡ false) where
   ranges_on : (k : ℕ) → k + 1 < column + 1 → outside (k + 1) (get_or (set w.cells (column - 1) x) k 0) ≡ false
   ranges_on k h =
       let l = w.low in
@@ -91,6 +90,6 @@ module _ {line : List ℕ} {column at : ℕ} (w : Before line column at) (few : 
           let i = (got line at (sym e)).inside in
           let r = row_whole (set w.cells (column - 1) x) (λ k l. ranges_on k (omega arith)) in
           let q : row_line (set w.cells (column - 1) x) ≡ line_of line = rw c (whole_line (w.columns few) (omega arith) (sym e) (omega arith)) in
-          let z : line_of line ≡ Unread = ap as_line u in
+          let z : line_of line ≡ None = ap as_line u in
           let z : ◌≡◌ {A = ℕ} 0 1 = cc in
           omega arith

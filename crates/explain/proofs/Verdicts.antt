@@ -1,21 +1,20 @@
 -- What a refused row's number says of the tests.
 use Rattle.std.specs.Prelude.{if◌then◌else◌}
-use mathlib.Core.Path.{◌≡◌, refl, sym, subst, ◌∙◌}
+use mathlib.Core.Path.{◌≡◌, refl, ap, sym, subst, ◌∙◌}
 use mathlib.Core.Logic.{◌≢◌}
-use mathlib.Core.Bool.{Bool, true, false, ◌&&◌, not}
-use mathlib.Core.List.{List}
+use mathlib.Core.Bool.{Bool, true, false, ◌&&◌, ◌||◌, not}
 use Prim.Native.Nat.{ℕ, ◌+◌}
 use native.Mathlib.Omega.{arith}
 use lib.Dec.{eqb}
-use borrow.Author.Tests.{ne_eqb}
 use Rattle.program_laws.proofs.Tests.{and_left}
 use Rattle.program_laws.proofs.Places.{leaves_of, stays_of, row_leaves, row_faults}
-use Rattle.model.specs.declared.Row.{Row}
+use Rattle.model.specs.declared.Row as rows
 use Rattle.model.specs.declared.Scan.{Scan}
 use Rattle.model.specs.Load.{lacking, same_rule, begun, taken, fault, take_row, passed, refused_at, too_many, breaks, valueless}
 use Rattle.model.specs.Places.{LeavesLacking}
-use Rattle.rows.specs.Scanning.{verdict_of}
-use Rattle.rows.specs.declared.Verdict.{Verdict}
+use Rattle.model.specs.declared.refusal.Refusal.{Refusal}
+use Rattle.model.specs.declared.refusal.Refusal.TheVariants.{NotWellFormed, Layout, Row, Valueless, TooMany, OutOfTurn, OutOfRange, IdsSpent, AtomsFull, PlansFull, CyclesSpent, NotAlive}
+use Rattle.model.specs.Refusals as Refusals
 use Rattle.causes.specs.declared.Limit.{Limit}
 use Rattle.causes.specs.declared.Lack.{Lack}
 use Rattle.causes.specs.declared.Breach.{Breach}
@@ -57,7 +56,7 @@ three false true c x y z = refl
 three false false true x y z = absurd (z refl)
 three false false false x y z = absurd (x refl)
 
-module _ (s t : Scan) (r : Row) where
+module _ (s t : Scan) (r : rows.Row) where
   pub is_too_many : fault s t r ≡ 5 → too_many s r ≡ true
   unfolding fault
   is_too_many e = five (too_many s r) (breaks s t r) (valueless t r) e
@@ -74,27 +73,39 @@ module _ (s t : Scan) (r : Row) where
   unfolding fault
   is_three x y z = three (too_many s r) (breaks s t r) (valueless t r) x y z
 
--- an answer that refuses
-pub verdict_refused : (v : Verdict) (C : List ℕ) → v.number ≢ 0 → verdict_of v C ≡ refused_at v.number v.line
-unfolding verdict_of
-verdict_refused v C z = rw (ne_eqb v.number 0 z)
-
 -- the number of a cause is that of the refusal
-pub of_row_number : {s : Scan} {r : Row} {c : Cause} {n k : ℕ} → OfRow s r c → take_row s r ≡ refused_at n k → number_of c ≡ n
+pub of_row_number : {s : Scan} {r : rows.Row} {c : Cause} {n k : ℕ} → OfRow s r c → take_row s r ≡ refused_at n k → number_of c ≡ n
 of_row_number {s} {r} (lack h x) e = let f = row_leaves s r h in cc
 of_row_number {s} {r} (limit h x) e = let f = row_faults s r h.0 5 h.1 refl in cc
 of_row_number {s} {r} (breach h x) e = let f = row_faults s r h.0 3 h.1 refl in cc
 of_row_number {s} {r} (unvalued h x) e = let f = row_faults s r h.0 4 h.1 refl in cc
 
-module _ (s : Scan) (r : Row) (v : Verdict) (C : List ℕ) (e : verdict_of v C ≡ take_row s r) (z : v.number ≢ 0) where
-  number_is : {a : Bool} → a ≡ lacking s → a && not (same_rule s r) ≡ false → v.number ≡ fault s (begun s r) r
-  unfolding verdict_of take_row
+-- a refusal that is neither 5 nor 4
+abbrev Other : ℕ → Type 0
+Other n = (n ≢ 0) × (n ≢ 5) × (n ≢ 4)
+
+other : (n : ℕ) → eqb n 0 || eqb n 5 || eqb n 4 ≡ false → Other n
+other n e = (λ z. absurd (grind (arith, z)), λ z. absurd (grind (arith, z)), λ z. absurd (grind (arith, z)))
+
+is_other : (f : Refusal) → (f ≡ TooMany → ⊥) → (f ≡ Valueless → ⊥) → Other (Refusals.number_of f)
+is_other NotWellFormed x y = other 1 refl
+is_other Layout x y = other 2 refl
+is_other Row x y = other 3 refl
+is_other Valueless x y = absurd (y refl)
+is_other TooMany x y = absurd (x refl)
+is_other OutOfTurn x y = other 6 refl
+is_other OutOfRange x y = other 7 refl
+is_other IdsSpent x y = other 8 refl
+is_other AtomsFull x y = other 9 refl
+is_other PlansFull x y = other 10 refl
+is_other CyclesSpent x y = other 11 refl
+is_other NotAlive x y = other 12 refl
+
+module _ (s : Scan) (r : rows.Row) (f : Refusal) (k : ℕ) (e : take_row s r ≡ refused_at (Refusals.number_of f) k) where
+  number_is : {a : Bool} → a ≡ lacking s → a && not (same_rule s r) ≡ false → Refusals.number_of f ≡ fault s (begun s r) r
+  unfolding take_row
   number_is {a} q l =
-      same_number (eqb (fault s (begun s r) r) 0) (taken (begun s r) r) v.number v.line (fault s (begun s r) r) (s.count + 2)
-      (sym (verdict_refused v C z) ∙ e ∙ row_judged)
-    where
-      row_judged : take_row s r ≡ (if eqb (fault s (begun s r) r) 0 then passed (taken (begun s r) r) else refused_at (fault s (begun s r) r) (s.count + 2))
-      row_judged = rw (← q, l)
+      same_number (eqb (fault s (begun s r) r) 0) (taken (begun s r) r) (Refusals.number_of f) k (fault s (begun s r) r) (s.count + 2) (sym e ∙ rw (← q, l))
 
   -- the ways through the tests on a refused row, t being the scan as the row finds it
   module _ {a : Bool} (q : a ≡ lacking s) where
@@ -108,30 +119,28 @@ module _ (s : Scan) (r : Row) (v : Verdict) (C : List ℕ) (e : verdict_of v C �
       stays : ¬ LeavesLacking s r
       stays = stays_of s r (subst (λ (b : Bool). b && not (same_rule s r) ≡ false) q l)
 
-      pub many_is : v.number ≡ 5 → too_many s r ≡ true
-      many_is n = is_too_many s (begun s r) r (sym (number_is q l) ∙ n)
+      fault_is : {n : ℕ} {v : Refusal} → Refusals.number_of v ≡ n → f ≡ v → fault s (begun s r) r ≡ n
+      fault_is m i = sym (number_is q l) ∙ ap Refusals.number_of i ∙ m
 
-      pub told_limit : (c : Limit) → v.number ≡ 5 → Exceeds s r c → OfRow s r (cause.Limit c)
-      told_limit c n x = limit (stays, sym (number_is q l) ∙ n) x
+      pub many_is : f ≡ TooMany → too_many s r ≡ true
+      many_is i = is_too_many s (begun s r) r (fault_is refl i)
+
+      pub told_limit : (c : Limit) → f ≡ TooMany → Exceeds s r c → OfRow s r (cause.Limit c)
+      told_limit c i x = limit (stays, fault_is refl i) x
 
       module _ (t : Scan) (g : t ≡ begun s r) where
-        pub valueless_is : v.number ≡ 4 → valueless t r ≡ true
-        valueless_is n = subst (λ (u : Scan). valueless u r ≡ true) (sym g) (is_valueless s (begun s r) r (sym (number_is q l) ∙ n))
+        pub valueless_is : f ≡ Valueless → valueless t r ≡ true
+        valueless_is i = subst (λ (u : Scan). valueless u r ≡ true) (sym g) (is_valueless s (begun s r) r (fault_is refl i))
 
-        pub told_unvalued : (c : Unvalued) → v.number ≡ 4 → LacksValue t r c → OfRow s r (cause.Unvalued c)
-        told_unvalued c n x = unvalued (stays, sym (number_is q l) ∙ n) (subst (λ (u : Scan). LacksValue u r c) g x)
+        pub told_unvalued : (c : Unvalued) → f ≡ Valueless → LacksValue t r c → OfRow s r (cause.Unvalued c)
+        told_unvalued c i x = unvalued (stays, fault_is refl i) (subst (λ (u : Scan). LacksValue u r c) g x)
 
-        module _ (x : v.number ≢ 5) (y : v.number ≢ 4) where
+        module _ (x : f ≡ TooMany → ⊥) (y : f ≡ Valueless → ⊥) where
           breach_is : fault s (begun s r) r ≡ 3
-          breach_is = let n = number_is q l in is_three s (begun s r) r (λ e. z (n ∙ e)) (λ e. x (n ∙ e)) (λ e. y (n ∙ e))
+          breach_is = let o : Other (fault s (begun s r) r) = subst Other (number_is q l) (is_other f x y) in is_three s (begun s r) r o.0 o.1 o.2
 
           pub breaks_is : breaks s t r ≡ true
           breaks_is = subst (λ (u : Scan). breaks s u r ≡ true) (sym g) (is_broken s (begun s r) r breach_is)
 
           pub told_breach : (c : Breach) → Breaches s t r c → OfRow s r (cause.Breach c)
-          told_breach c f = breach (stays, breach_is) (subst (λ (u : Scan). Breaches s u r c) g f)
-
--- a refusal tells nothing of the ceilings
-pub refused_with : (v : Verdict) (C D : List ℕ) → v.number ≢ 0 → verdict_of v C ≡ verdict_of v D
-unfolding verdict_of
-refused_with v C D z = rw (ne_eqb v.number 0 z)
+          told_breach c b = breach (stays, breach_is) (subst (λ (u : Scan). Breaches s u r c) g b)

@@ -1,5 +1,5 @@
 -- What each cause of a refused load says of the text.
-use Rattle.std.specs.Prelude.{ℕ, ◌+◌, ◌-◌, ◌≤◌, ◌<◌, ◌≡◌, ◌≢◌, Bool, true, false, ◌&&◌, ◌||◌, not, List, leb, ltb, eqb, length, take, drop, get_or}
+use Rattle.std.specs.Prelude.{Some, None, ℕ, ◌+◌, ◌-◌, ◌≤◌, ◌<◌, ◌≡◌, ◌≢◌, Bool, true, false, ◌&&◌, ◌||◌, not, List, leb, ltb, eqb, length, take, drop, get_or}
 use Rattle.std.proofs.Math.Option.{none, some}
 use Rattle.lists.specs.Lists.{within}
 use Rattle.model.specs.declared.Row.{Row}
@@ -8,7 +8,6 @@ use Rattle.model.specs.Text.{Lines, end, unended, line, lines, read_row, names}
 use Rattle.model.specs.Load.{Loaded, loaded, refused, load, lacking, begun, fault}
 use Rattle.model.specs.Places.{LeavesLacking, Comes}
 use Rattle.text.specs.Reading.{int_at, Ends}
-use Rattle.text.specs.declared.Read.TheVariants.{Number, Unreadable}
 use Rattle.script.specs.Reading.{WordEnds}
 use Rattle.causes.specs.declared.Limit.{Limit}
 use Rattle.causes.specs.declared.Lack.{Lack}
@@ -28,20 +27,20 @@ outside column x = (leb column 4 && ltb x 9) || (eqb column 6 && not (within 9 2
 -- "one space between": the columns before this one read as integers in range, each with a space behind it, and this one begins at `at`
 pub data Begins (bytes : List ℕ) : ℕ → ℕ → Type 0 where
   first : Begins bytes 1 0
-  next : {column at v n : ℕ} → Begins bytes column at → int_at bytes at ≡ Number v (record { at = n }) → outside column v ≡ false
+  next : {column at v n : ℕ} → Begins bytes column at → int_at bytes at ≡ Some (record { value = v; next = n }) → outside column v ≡ false
       → get_or bytes n 0 ≡ 32 → Begins bytes (column + 1) (n + 1)
 
 -- what is wrong with the column that begins at `at`
 pub data Wrong (bytes : List ℕ) (column at : ℕ) : Layout → Type 0 where
   cut : length bytes ≤ at → Wrong bytes column at (layout.Empty column)
   doubled : get_or bytes at 0 ≡ 32 → Wrong bytes column at (layout.Empty column)
-  unread : {to : ℕ} → at < length bytes → get_or bytes at 0 ≢ 32 → int_at bytes at ≡ Unreadable → WordEnds bytes at to
+  unread : {to : ℕ} → at < length bytes → get_or bytes at 0 ≢ 32 → int_at bytes at ≡ None → WordEnds bytes at to
       → Wrong bytes column at (layout.Integer column at to)
-  far : {to v n : ℕ} → int_at bytes at ≡ Number v (record { at = n }) → outside column v ≡ true → WordEnds bytes at to
+  far : {to v n : ℕ} → int_at bytes at ≡ Some (record { value = v; next = n }) → outside column v ≡ true → WordEnds bytes at to
       → Wrong bytes column at (layout.Integer column at to)
-  more : {to v n : ℕ} → int_at bytes at ≡ Number v (record { at = n }) → n < length bytes → get_or bytes n 0 ≢ 32 → WordEnds bytes at to
+  more : {to v n : ℕ} → int_at bytes at ≡ Some (record { value = v; next = n }) → n < length bytes → get_or bytes n 0 ≢ 32 → WordEnds bytes at to
       → Wrong bytes column at (layout.Integer column at to)
-  few : {v n : ℕ} → column < 8 → int_at bytes at ≡ Number v (record { at = n }) → outside column v ≡ false → length bytes ≤ n
+  few : {v n : ℕ} → column < 8 → int_at bytes at ≡ Some (record { value = v; next = n }) → outside column v ≡ false → length bytes ≤ n
       → Wrong bytes column at (layout.Columns column)
 
 -- 2: "lines of eight integers in that order, one space between": the first column that is wrong, or the eight that one more follows

@@ -4,17 +4,18 @@
 ghost use Rattle.std.specs.Prelude.{◌≡◌, ◌≢◌, ◌≤◌};
 ghost use Rattle.std.proofs.Math.Option.{none};
 ghost use Rattle.model.specs.Text.{read_row};
-ghost use Rattle.model.specs.Load.{take_row};
-ghost use Rattle.rows.specs.Scanning.{whole as scanned, Small, verdict_of};
+ghost use Rattle.model.specs.Load.{take_row, refused_at};
+ghost use Rattle.model.specs.Refusals.{number_of};
+ghost use Rattle.rows.specs.Scanning.{whole as scanned, Small};
 ghost use Rattle.causes.specs.Checking.{InSetZero};
 ghost use Rattle.explain.specs.Explaining.{outside as is-outside, Misread, OfRow, Told};
 
 use causes::{Breach, Lack, Limit, Unvalued};
-use model::{Row, Scan};
-use rows::{RuleScan, Verdict};
-use text::{Cursor, Line, Read};
+use model::{LoadError, Refusal, Row, Scan};
+use rows::RuleScan;
 
 // 2: what is not as laid out. Columns have their number; a word stands from one place of the line to another.
+// kept: (d) a column by its number: they are counted here, and the number is printed; an enum would be made from it and back
 #[derive(Clone, Copy)]
 pub enum Layout {
     Names,
@@ -58,21 +59,17 @@ fn layout_of(line: &[u8]) -> Layout
     ensures { Misread line.now result }
 {
     let mut at: usize = 0;
-    let mut column: u32 = 1;
-    while column <= 8 {
-        if line.len() <= at {
-            return Layout::Empty(column);
-        }
-        if line[at] == 32 {
+    for column in 1..9 {
+        if line.len() <= at || line[at] == 32 {
             return Layout::Empty(column);
         }
         let from = at;
         let to = script::word_end(line, from);
-        let Read::Number(x, next) = text::read_int(line, Cursor { at: from }) else {
+        let Some(d) = text::read_int(line, from) else {
             return Layout::Integer { column, from, to };
         };
-        let n = next.at;
-        if outside(column, x) {
+        let n = d.next;
+        if outside(column, d.value) {
             return Layout::Integer { column, from, to };
         }
         if line.len() <= n {
@@ -82,7 +79,6 @@ fn layout_of(line: &[u8]) -> Layout
             return Layout::Integer { column, from, to };
         }
         at = n + 1;
-        column += 1;
     }
     Layout::Ninth
 }
@@ -91,28 +87,29 @@ fn layout_of(line: &[u8]) -> Layout
 fn whole(q: RuleScan, ceilings: [u8; 256]) -> Scan
     ensures { result ≡ scanned q ceilings }
 {
+    let place = q.place;
     let valued = q.valued;
     Scan {
         count: q.count,
-        atoms: q.atoms,
-        set: q.set,
-        rule: q.rule,
-        part: q.part,
-        reasons: q.reasons,
-        context: q.context,
-        body: q.body,
-        object: q.object,
+        atoms: place.atoms,
+        set: place.set,
+        rule: place.rule,
+        part: place.part,
+        reasons: place.reasons,
+        context: place.context,
+        body: place.body,
+        object: place.object,
         valued,
         ceilings,
     }
 }
 
 // A row that is refused after the scan s, which is q with its ceilings.
-fn of_row(q: RuleScan, s: Scan, r: Row, v: Verdict) -> Cause
+fn of_row(q: RuleScan, s: Scan, r: Row, e: LoadError) -> Cause
     requires small { Small s }
     requires in_set_zero { InSetZero s }
     requires p_bound { r.p ≤ 255 }
-    requires ceilings_value { (verdict_of v s.ceilings ≡ take_row s r) × (v.number ≢ 0) }
+    requires refused { take_row s r ≡ refused_at (number_of e.refusal) e.line }
     requires s_value { s ≡ scanned q s.ceilings }
     ensures { OfRow s r result }
 {
@@ -122,13 +119,11 @@ fn of_row(q: RuleScan, s: Scan, r: Row, v: Verdict) -> Cause
     }
     let ceilings = s.ceilings;
     let t = whole(rows::begun(q, r), ceilings);
-    if v.number == 5 {
-        return Cause::Limit(causes::limit_of(s, r));
+    match e.refusal {
+        Refusal::TooMany => Cause::Limit(causes::limit_of(s, r)),
+        Refusal::Valueless => Cause::Unvalued(causes::unvalued_of(t, r)),
+        _ => Cause::Breach(causes::breach_of(s, t, r)),
     }
-    if v.number == 4 {
-        return Cause::Unvalued(causes::unvalued_of(t, r));
-    }
-    Cause::Breach(causes::breach_of(s, t, r))
 }
 
 // "Load tests lines in order": why the first that is refused is refused.
@@ -136,15 +131,7 @@ pub fn explain(text: &[u8]) -> Explained
     ensures { Told text.now result }
 {
     let first = text::newline(text, 0);
-    if text.len() <= first {
-        return Explained {
-            cause: Cause::Layout(Layout::Names),
-            line: 1,
-            begin: 0,
-            end: first,
-        };
-    }
-    if !text::is_names(&text[..first]) {
+    if text.len() <= first || !text::is_names(&text[..first]) {
         return Explained {
             cause: Cause::Layout(Layout::Names),
             line: 1,
@@ -165,7 +152,7 @@ pub fn explain(text: &[u8]) -> Explained
                 end,
             };
         }
-        let Line::Whole(row) = text::read_row(&text[at..end]) else {
+        let Some(row) = text::read_row(&text[at..end]) else {
             return Explained {
                 cause: Cause::Layout(layout_of(&text[at..end])),
                 line: s.count + 2,
@@ -174,17 +161,17 @@ pub fn explain(text: &[u8]) -> Explained
             };
         };
         let before = whole(s, ceilings);
-        let v = rows::take_row(s, &mut ceilings, row);
-        if v.number != 0 {
-            return Explained {
-                cause: of_row(s, before, row, v),
-                line: v.line,
-                begin: at,
-                end,
-            };
+        match rows::take_row(s, &mut ceilings, row) {
+            Ok(scan) => s = scan,
+            Err(e) => {
+                return Explained {
+                    cause: of_row(s, before, row, e),
+                    line: e.line,
+                    begin: at,
+                    end,
+                };
+            }
         }
-        let scan = v.scan;
-        s = scan;
         at = end + 1;
     }
     if rows::lacking(s) {

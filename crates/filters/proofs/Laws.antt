@@ -1,4 +1,5 @@
 -- A row that is barred has no answer: an atom that fitted it would have a mark where none is.
+use Rattle.std.specs.Prelude.{Some, None}
 use mathlib.Core.Path.{◌≡◌, refl, sym, ap, ◌∙◌}
 use mathlib.Core.Bool.{Bool, true, false, ◌&&◌, and-eq-true_iff}
 use mathlib.Core.Logic.{⊎_elim}
@@ -15,10 +16,10 @@ use Rattle.model.specs.declared.Atom.{Atom}
 use Rattle.model.specs.Matching.{Found}
 use Rattle.state.specs.declared.Scalars.{Scalars}
 use Rattle.state.specs.View.{atom_p, atom_a, atom_b, atom_at}
-use Rattle.queries.specs.View.{column_of, sought_of, stands_at}
+use Rattle.queries.specs.View.{stands_at}
 use Rattle.queries.specs.Answers.{answers}
 use Rattle.queries.proofs.Answers.{hits_end}
-use Rattle.queries.proofs.Skips.{unknown, atoms_counted, hits_past_atoms}
+use Rattle.queries.proofs.Skips.{atoms_counted, hits_past_atoms}
 use Rattle.queries.proofs.Eights.{not_standing}
 use Rattle.filters.specs.Filters.{size, place_of, Marked, Barred}
 
@@ -50,21 +51,21 @@ marked_more words k filter x at m e h low = record { long = length-set filter at
 
 -- no atom stands so
 module _ (words : List ℕ) (s : Scalars) (filter : List ℕ) (m : Marked words s.atoms filter) (r : Row) (f : Found) (b : Barred filter r f.values) where
-  absent : (k : ℕ) → k < s.atoms → stands_at words r.p (column_of b.a atom_a) (sought_of b.a r.p) (column_of b.b atom_b) (sought_of b.b r.p) k ≡ false
+  absent : (k : ℕ) → k < s.atoms → stands_at words r.p atom_a b.a atom_b b.b k ≡ false
   unfolding atom_at
-  absent k h = rw (b.known_a, b.known_b) (at _ refl)
+  absent k h = at _ refl
     where
       here : Bool
-      here = eqb (get_or words (atom_p + k) 0) r.p && (eqb (get_or words (atom_a + k) 0) b.a.number && eqb (get_or words (atom_b + k) 0) b.b.number)
+      here = eqb (get_or words (atom_p + k) 0) r.p && (eqb (get_or words (atom_a + k) 0) b.a && eqb (get_or words (atom_b + k) 0) b.b)
 
       clash : here ≡ true → ⊥
       clash e =
-          let p = (and-eq-true_iff (eqb (get_or words (atom_p + k) 0) r.p) (eqb (get_or words (atom_a + k) 0) b.a.number && eqb (get_or words (atom_b + k) 0) b.b.number)).0 e in
-          let q = (and-eq-true_iff (eqb (get_or words (atom_a + k) 0) b.a.number) (eqb (get_or words (atom_b + k) 0) b.b.number)).0 p.1 in
+          let p = (and-eq-true_iff (eqb (get_or words (atom_p + k) 0) r.p) (eqb (get_or words (atom_a + k) 0) b.a && eqb (get_or words (atom_b + k) 0) b.b)).0 e in
+          let q = (and-eq-true_iff (eqb (get_or words (atom_a + k) 0) b.a) (eqb (get_or words (atom_b + k) 0) b.b)).0 p.1 in
           let x = eqb-true (get_or words (atom_p + k) 0) r.p p.0 in
-          let y = eqb-true (get_or words (atom_a + k) 0) b.a.number q.0 in
-          let z = eqb-true (get_or words (atom_b + k) 0) b.b.number q.1 in
-          let one : get_or filter (place_of r.p b.a.number b.b.number) 0 ≡ 1 = rw (← x, ← y, ← z) (m.marks k h) in
+          let y = eqb-true (get_or words (atom_a + k) 0) b.a q.0 in
+          let z = eqb-true (get_or words (atom_b + k) 0) b.b q.1 in
+          let one : get_or filter (place_of r.p b.a b.b) 0 ≡ 1 = rw (← x, ← y, ← z) (m.marks k h) in
           let none = b.clear in
           absurd (omega arith)
 
@@ -82,8 +83,8 @@ module _ (words : List ℕ) (s : Scalars) (filter : List ℕ) (m : Marked words 
       let n = atoms_counted s r low high in
       rw odd (⊎_elim
       (λ t. let g = ltb-true c s.atoms t in
-      hits_past_atoms s r low high words f b.a b.b c s.atoms b.wants_a b.wants_b
-      (record { on = omega arith; missed = λ k u v. not_standing words r.p unknown b.a b.b k (absent k v) })
+      hits_past_atoms s r low high words f (Some b.a) (Some b.b) c s.atoms b.wants_a b.wants_b
+      (record { on = omega arith; missed = λ k u v. not_standing words r.p None (Some b.a) (Some b.b) k (absent k v) })
       ∙ hits_end words s r f s.atoms (omega arith))
       (λ t. let g = ltb-false c s.atoms t in hits_end words s r f c (omega arith))
       (test (ltb c s.atoms)))

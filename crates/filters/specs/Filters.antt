@@ -1,8 +1,7 @@
 -- What a filter says: where no mark stands, no live atom has that predicate with those arguments.
-use Rattle.std.specs.Prelude.{◌≡◌, true, List, ℕ, ◌+◌, ◌*◌, ◌%◌, ◌<◌, length, get_or}
+use Rattle.std.specs.Prelude.{◌≡◌, List, Some, ℕ, ◌+◌, ◌*◌, ◌%◌, ◌<◌, length, get_or}
 use Rattle.model.specs.declared.Row.{Row}
 use Rattle.state.specs.View.{atom_at}
-use Rattle.queries.specs.declared.Wanted.{Wanted}
 use Rattle.queries.specs.View.{Wants}
 
 -- how many places there are, and the place of p(a, b): any function would do, and one that spreads small numbers is quick
@@ -20,10 +19,8 @@ pub record Marked (words : List ℕ) (n : ℕ) (filter : List ℕ) : Type 0 wher
 -- a positive query for an atom whose arguments are both known, and no mark stands at its place
 pub record Barred (filter : List ℕ) (r : Row) (values : List ℕ) : Type 0 where
   pub one : r.op ≡ 1
-  pub a : Wanted
-  pub b : Wanted
-  pub wants_a : Wants a r.a values
-  pub wants_b : Wants b r.b values
-  pub known_a : a.known ≡ true
-  pub known_b : b.known ≡ true
-  pub clear : get_or filter (place_of r.p a.number b.number) 0 ≡ 0
+  pub a : ℕ
+  pub b : ℕ
+  pub wants_a : Wants (Some a) r.a values
+  pub wants_b : Wants (Some b) r.b values
+  pub clear : get_or filter (place_of r.p a b) 0 ≡ 0

@@ -13,6 +13,7 @@ use state::Scalars;
 pub const SIZE: usize = 4096;
 
 // The place of p(a, b).
+#[tactic(auto, unfolding(crate::specs::Filters::place_of))]
 fn place(p: u32, a: u32, b: u32) -> usize
     ensures { (result ≡ place_of p a b) × (result < 4096) }
 {
@@ -26,12 +27,10 @@ pub fn of_atoms(words: &[u32], atoms: u32) -> [u8; SIZE]
 {
     let n = atoms as usize;
     let mut filter: [u8; SIZE] = [0; SIZE];
-    let mut k: usize = 0;
-    while k < n {
+    for k in 0..n {
         let x = state::atom_at(words, k);
         let at = place(x.p, x.a, x.b);
         filter[at] = 1;
-        k += 1;
     }
     filter
 }
@@ -44,15 +43,13 @@ pub fn is_barred<'a>(filter: &'a [u8], r: Row, values: &'a [u32]) -> bool
     if r.op != 1 {
         return false;
     }
-    let a = queries::wanted_by(r.a, values);
-    if !a.known {
+    let Some(a) = queries::wanted_by(r.a, values) else {
         return false;
-    }
-    let b = queries::wanted_by(r.b, values);
-    if !b.known {
+    };
+    let Some(b) = queries::wanted_by(r.b, values) else {
         return false;
-    }
-    let at = place(r.p, a.number, b.number);
+    };
+    let at = place(r.p, a, b);
     filter[at] == 0
 }
 
@@ -67,15 +64,15 @@ pub fn next_answer<'a>(
     values: &mut [u32; 8],
     matched: &mut [u32; 4],
     filter: &'a [u8],
-) -> usize
+) -> Option<usize>
     requires { Limits words.now s × (room r count ≤ 4) × Sized values.old matched.old × (values.old ≡ before) × Marked words.now s.atoms filter.now }
     ensures sized { Sized values.new matched.new }
     ensures is { Next (answers words.now s r (found_in before matched.old count)) c (width s r) (found_in values.new matched.new (count + given_ids r)) result }
-    ensures back { result ≡ 0 → values.new ≡ before }
+    ensures back { result ≡ None → values.new ≡ before }
     ensures kept { Kept count matched.old matched.new }
 {
     if is_barred(filter, r, &before) {
-        return 0;
+        return None;
     }
     queries::next_answer(words, s, r, c, before, count, values, matched)
 }

@@ -6,7 +6,7 @@ use mathlib.Core.List.{List, [], ◌∷◌}
 use Prim.Native.Nat.{ℕ, ◌+◌, ◌-◌}
 use native.Mathlib.Omega.{arith}
 use lib.ListN.{length}
-use Rattle.lists.specs.Lists.{In, first, when}
+use Rattle.lists.specs.Lists.{In, first}
 use Rattle.lists.proofs.Counted.{counted_long}
 use Rattle.model.specs.declared.Row.{Row}
 use Rattle.model.specs.Program.{body, is_object}
@@ -22,7 +22,6 @@ use Rattle.state.proofs.Live.{sound_atoms_rise, sound_plans_rise}
 use Rattle.queries.specs.View.{found_of, Limits}
 use Rattle.matching.specs.declared.Choice.{Choice}
 use Rattle.matching.specs.Rules.{rows_between, choice_of, Chosen}
-use Rattle.matching.proofs.Firing.{choice_none}
 use Rattle.stepping.specs.declared.Did.TheVariants.{MovedOn}
 use Rattle.stepping.specs.Steps.{answered_by, WellWords}
 use Rattle.stepping.proofs.Standing.{lawful_rows, sound_graph, shaped, whole, flags_fit}
@@ -40,7 +39,7 @@ well_limits program words s w =
     let h = whole program words s w in
     record { long = h.long; atoms = h.few_atoms; plans = h.few_plans; flags = flags_fit program words s w; atoms_rise = sound_atoms_rise words s h.sound; plans_rise = sound_plans_rise words s h.sound }
 
-module _ (program words : List ℕ) (s : Scalars) (x : Choice) (is : choice_of x ≡ firing (rows_of program) (config_of words s) s.phase) where
+module _ (program words : List ℕ) (s : Scalars) where
   abbrev P : List Row
   P = rows_of program
 
@@ -48,23 +47,20 @@ module _ (program words : List ℕ) (s : Scalars) (x : Choice) (is : choice_of x
   C = config_of words s
 
   -- no rule has a match
-  pub moved : x.found ≡ false → (s' : Scalars) → s' ≡ phase_put (s.phase + 1) s →
+  pub moved : [] ≡ firing P C s.phase → (s' : Scalars) → s' ≡ phase_put (s.phase + 1) s →
       answered_by s.next words (record { scalars = s'; gone = 0; number = 0; did = MovedOn }) ≡ answer_of C (fire_first P C (firing P C s.phase))
   unfolding fire_first answer_of
-  moved f s' e = ap (λ (t : Scalars). answered_by s.next words (record { scalars = t; gone = 0; number = 0; did = MovedOn })) e ∙ ap (λ (l : List Firing). answer_of C (fire_first P C l)) (sym (choice_none x f) ∙ is)
+  moved is s' e = ap (λ (t : Scalars). answered_by s.next words (record { scalars = t; gone = 0; number = 0; did = MovedOn })) e ∙ ap (λ (l : List Firing). answer_of C (fire_first P C l)) is
 
-  module _ (f : x.found ≡ true) (h : Chosen program s.phase x) where
+  module _ (x : Choice) (is : choice_of x ∷ [] ≡ firing P C s.phase) (h : Chosen program s.phase x) where
     abbrev n : ℕ
     n = x.rule.number
 
     abbrev chosen : Firing
     chosen = record { rule = n; match = found_of x.bindings }
 
-    one : firing P C s.phase ≡ chosen ∷ []
-    one = sym is ∙ ap (λ (b : Bool). when b chosen) f
-
     matched : In (found_of x.bindings) (rule_matches P C x.rule.set n)
-    matched = subst (λ (t : ℕ). In (found_of x.bindings) (rule_matches P C t n)) (sym h.set_is) (firing_matches P C s.phase chosen (subst (In chosen) (sym one) (first refl)))
+    matched = subst (λ (t : ℕ). In (found_of x.bindings) (rule_matches P C t n)) (sym h.set_is) (firing_matches P C s.phase chosen (subst (In chosen) is (first refl)))
 
     body_long : length (body P x.rule.set n) ≡ x.rule.end - x.rule.body
     unfolding rows_between
@@ -73,7 +69,7 @@ module _ (program words : List ℕ) (s : Scalars) (x : Choice) (is : choice_of x
     -- the firing, in terms of the set that the rule names
     fires_as : (o : Outcome) → o ≡ fire P x.rule.set chosen (begin C) → o ≡ fire_first P C (firing P C s.phase)
     unfolding fire_first
-    fires_as o e = e ∙ ap (λ (t : ℕ). fire P t chosen (begin C)) h.set_is ∙ ap (fire_first P C) (sym one)
+    fires_as o e = e ∙ ap (λ (t : ℕ). fire P t chosen (begin C)) h.set_is ∙ ap (fire_first P C) is
 
     is_raised : is_object P x.rule.set n ≡ true → raised x (begin C) ≡ fire P x.rule.set chosen (begin C)
     unfolding raised fire fire_object meta_work

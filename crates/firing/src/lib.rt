@@ -21,9 +21,8 @@ fn fire_object(words: &mut [u32], scalars: Scalars, x: Choice) -> Progress
     ensures result_after { answered_by scalars.next words.new result ≡ answer_of (config_of words.old scalars) (raised x (begin (config_of words.old scalars))) }
     ensures untouched { result.number ≢ 0 → words.new ≡ words.old }
 {
-    let bar = state::room_for_plan(scalars);
-    if bar != 0 {
-        return stepping::barred(scalars, bar);
+    if let Err(refusal) = state::room_for_plan(scalars) {
+        return stepping::barred(scalars, refusal.number());
     }
     let rule = x.rule;
     let f = x.bindings;
@@ -52,15 +51,14 @@ pub fn fire_first(program: &[u32], words: &mut [u32], scalars: Scalars) -> Progr
     ensures result_after { answered_by scalars.next words.new result ≡ answer_of (config_of words.old scalars) (fires_first (rows_of program.now) (config_of words.old scalars) (firing (rows_of program.now) (config_of words.old scalars) scalars.phase)) }
     ensures untouched { result.number ≢ 0 → words.new ≡ words.old }
 {
-    let x = matching::choose(program, words, scalars, scalars.phase);
-    if !x.found {
+    let Some(x) = matching::choose(program, words, scalars, scalars.phase) else {
         return Progress {
             scalars: scalars.with_phase(scalars.phase + 1),
             gone: 0,
             number: 0,
             did: Did::MovedOn,
         };
-    }
+    };
     let rule = x.rule;
     if rule.object {
         return fire_object(words, scalars, x);

@@ -8,18 +8,20 @@ use native.Mathlib.Omega.{arith}
 use lib.Dec.{eqb}
 use lib.ListN.{length, get_or, set, replicate, length-set, get_or-replicate}
 use lib.Seq.{get_or-set_same, get_or-set_other}
-use borrow.Author.Tests.{eqb-false, eq-eqb, ne_eqb}
-use Rattle.lists.specs.Tables.{tabulate, index_of}
+use borrow.Author.Tests.{ltb-true, eqb-false, eq-eqb, ne_eqb}
+use Rattle.std.specs.Prelude.{None}
+use Rattle.lists.specs.Lists.{member}
+use Rattle.lists.specs.Tables.{tabulate, index_of, PlaceOf}
 use Rattle.lists.proofs.Lists.{test, clash, in_cast, in_member, pairs_map, or_right}
 use Rattle.lists.proofs.Tests.{or_left, false_not}
-use Rattle.lists.proofs.Tables.{equal_or_not, get_in, tabulate_length, tabulate_at, tabulate_map, index_found, index_at}
+use Rattle.lists.proofs.Tables.{equal_or_not, get_in, tabulate_length, tabulate_at, tabulate_map, index_found, index_at, index_member}
 use Rattle.lists.proofs.Counted.{in_pairs_places, in_pairs_fails}
 use Rattle.model.specs.declared.Atom.{Atom}
 use Rattle.model.specs.Graph.{Node}
 use Rattle.model.specs.Deletion.{node}
 use Rattle.state.specs.View.{atom_at, plan_at, atoms_of, plans_of, atom_ids_of}
 use Rattle.formed_plans.specs.Plans.{AtomsStand}
-use Rattle.formed.specs.Passes.{subgoals_differ}
+use Rattle.formed.specs.Passes.{SubgoalsAlive, subgoals_differ}
 use Rattle.formed_plans.proofs.Words.{atom_ids_long}
 
 abbrev subgoal_at : List ℕ → ℕ → ℕ
@@ -44,6 +46,15 @@ last_or_before j k h = ⊎_elim (λ e. inl e) (λ e. inr (omega arith)) (equal_o
 
 abbrev apart_test : Node → Node → Bool
 apart_test p q = eqb p.subgoal 0 || not (eqb p.subgoal q.subgoal)
+
+-- the subgoal of a plan stands among the atoms, so it is found
+pub not_missing : (W : List ℕ) (atoms plans k subgoal : ℕ) → k < plans → SubgoalsAlive atoms plans W → subgoal ≡ subgoal_at W k → subgoal ≢ 0 → PlaceOf atoms subgoal (atom_ids_of atoms W) None → ⊥
+not_missing W atoms plans k subgoal h alive s some e =
+    let ids : List ℕ = atom_ids_of atoms W in
+    let m : member subgoal ids ≡ true = rw s (alive k h (λ z. some (s ∙ z))) in
+    let g : index_of subgoal ids < length ids = ltb-true (index_of subgoal ids) (length ids) (index_member subgoal ids ∙ m) in
+    let l = atom_ids_long W atoms in
+    omega arith
 
 module _ (W : List ℕ) (atoms : ℕ) (w : AtomsStand W atoms) where
   abbrev ids : List ℕ
@@ -123,3 +134,6 @@ module _ (W : List ℕ) (atoms : ℕ) (w : AtomsStand W atoms) where
         let a = tabulate_at plans g i (g 0) (omega arith) in
         let b = tabulate_at plans g j (g 0) (omega arith) in
         rw (a, b) (differ_true (subgoal_at W i) (subgoal_at W j) (t.apart i j p (omega arith))))
+
+-- what `subgoals_differ` rests on
+pub ruleset marking = (marked_none, marked_past, marked_more, marked_twice, marked_all, not_missing)

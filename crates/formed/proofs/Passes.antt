@@ -81,3 +81,8 @@ module _ {A : Type 0} (id : A → ℕ) (f : A → Bool) (g : ℕ → A) where
 
     pub passed_all : n ≤ k → in_order id f (tabulate n g) ≡ true
     passed_all h = in_order_holds n (λ i p. w.all i (omega arith))
+
+-- what `atoms_formed` and `plans_formed` rest on
+pub ruleset testing = (tested_none, tested_more, tested_all)
+
+pub ruleset passing = (passed_none, passed_more, passed_fails, passed_all)

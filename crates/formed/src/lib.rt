@@ -17,6 +17,7 @@ use model::Atom;
 use state::{Config, Scalars};
 
 // The atom is below the next id and within its limits.
+#[tactic(auto, unfolding(model::specs::WellFormed::atom_formed))]
 fn atom_fits(x: Atom, next: u32) -> bool
     ensures { result ≡ atom_fits next x }
 {
@@ -25,24 +26,23 @@ fn atom_fits(x: Atom, next: u32) -> bool
 }
 
 // The atoms' ids rise from 1 on, and each atom fits.
+#[tactic(auto, using(crate::proofs::Passes::testing))]
 fn atoms_formed(words: &[u32], atoms: u32, next: u32) -> bool
     requires { (length words.now ≡ 2432) × (atoms ≤ 256) }
     ensures { result ≡ in_order atom_id (atom_fits next) (atoms_of atoms words.now) }
 {
-    let n = atoms as usize;
     let mut fits = true;
     let mut before: u32 = 0;
-    let mut k: usize = 0;
-    while k < n {
+    for k in 0..atoms as usize {
         let x = state::atom_at(words, k);
         fits = fits & ((before < x.id) & atom_fits(x, next));
         before = x.id;
-        k += 1;
     }
     fits
 }
 
 // The plans' ids rise from 1 on, and each plan fits.
+#[tactic(auto, using(crate::proofs::Passes::passing))]
 fn plans_formed(program: &[u32], words: &[u32], scalars: Scalars) -> bool
     requires { AtomsStand words.now scalars.atoms × (scalars.plans ≤ 64) × Pairs NotLater (rows_of program.now) }
     ensures { result ≡ in_order plan_id (plan_fits (rows_of program.now) (config_of words.now scalars)) (plans_of scalars.plans words.now) }
@@ -64,8 +64,7 @@ fn plans_formed(program: &[u32], words: &[u32], scalars: Scalars) -> bool
         subgoal: 0,
     };
     let mut before: u32 = 0;
-    let mut k: usize = 0;
-    while k < n {
+    for k in 0..n {
         let set = state::plan_set(words, k);
         let rule = state::plan_rule(words, k);
         if (at.set != set) | (at.rule != rule) {
@@ -78,36 +77,36 @@ fn plans_formed(program: &[u32], words: &[u32], scalars: Scalars) -> bool
             return false;
         }
         before = id;
-        k += 1;
     }
     true
 }
 
 // "no atom is the subgoal of two plans": a mark at each atom that is one.
+#[tactic(auto, using(crate::proofs::Apart::marking))]
 fn subgoals_differ(words: &[u32], atoms: u32, plans: u32) -> bool
     requires { AtomsStand words.now atoms × (plans ≤ 64) × SubgoalsAlive atoms plans words.now }
     ensures { result ≡ subgoals_differ (map node (plans_of plans words.now)) }
 {
-    let n = plans as usize;
     let mut marks = [false; 256];
     let mut guess: usize = 0;
-    let mut k: usize = 0;
-    while k < n {
+    for k in 0..plans as usize {
         let subgoal = state::plan_subgoal(words, k);
         if subgoal != 0 {
-            let i = state::find_near(words, atoms, subgoal, guess);
+            let Some(i) = state::find_near(words, atoms, subgoal, guess) else {
+                return false;
+            };
             if marks[i] {
                 return false;
             }
             marks[i] = true;
             guess = i;
         }
-        k += 1;
     }
     true
 }
 
 // "a waiting plan is alive, in exec phase, with an external action first"
+#[tactic(auto, unfolding(model::specs::WellFormed::waiting_formed), using(crate::proofs::Waiting::waiting_found, crate::proofs::Waiting::waiting_absent))]
 fn waiting_formed(program: &[u32], words: &[u32], scalars: Scalars, exec: u32) -> bool
     requires { (length words.now ≡ 2432) × (scalars.plans ≤ 64) × PlansRise scalars.plans words.now × Pairs NotLater (rows_of program.now) × (exec ≡ sets (rows_of program.now) + 1) }
     ensures { result ≡ waiting_formed (rows_of program.now) (config_of words.now scalars) }
@@ -120,14 +119,14 @@ fn waiting_formed(program: &[u32], words: &[u32], scalars: Scalars, exec: u32) -
         return false;
     }
     let plans = scalars.plans;
-    let k = state::find_plan(words, plans, waiting);
-    if plans as usize <= k {
-        return false;
+    match state::find_plan(words, plans, waiting) {
+        Some(k) => formed_plans::acts_first(program, words, k),
+        None => false,
     }
-    formed_plans::acts_first(program, words, k)
 }
 
 // "k = number of rule sets": the set of the last row.
+#[tactic(auto, using(crate::proofs::Sets::sets_none, crate::proofs::Sets::sets_last))]
 pub fn sets_of(program: &[u32]) -> u32
     requires { Pairs NotLater (rows_of program.now) }
     ensures { result ≡ sets (rows_of program.now) }

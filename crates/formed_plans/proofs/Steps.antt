@@ -1,13 +1,13 @@
 -- A rule with reasons; the test of a step that may not be there; a plan's subgoal is the atom that stands where it is found.
 use mathlib.Core.Path.{◌≡◌, sym, ap, ◌∙◌}
-use mathlib.Core.Bool.{Bool, true, false, not, ◌&&◌, and-false, or-false}
+use mathlib.Core.Bool.{Bool, false, not, ◌&&◌, and-false, or-false}
 use mathlib.Core.List.{List, [], ◌∷◌}
 use Prim.Native.Nat.{ℕ, ◌-◌, ◌≤◌, ◌<◌}
 use native.Mathlib.Omega.{arith}
 use lib.Dec.{ltb, eqb}
 use lib.ListN.{length, get_or}
 use borrow.Author.Tests.{lt-ltb, le-ltb}
-use Rattle.lists.specs.Lists.{is_empty, some, when}
+use Rattle.lists.specs.Lists.{is_empty, some}
 use Rattle.lists.specs.Tables.{index_of}
 use Rattle.lists.proofs.Lists.{pairs_map}
 use Rattle.lists.proofs.Tables.{tabulate_length, tabulate_at}
@@ -22,11 +22,14 @@ use Rattle.state.specs.declared.Scalars.{Scalars}
 use Rattle.state.specs.View.{atom_at, atoms_of, config_of, atom_ids_of}
 use Rattle.formed_plans.specs.Plans.{AtomsStand}
 
--- a step is there and passes the test
-pub some_when : (f : Row → Bool) (b : Bool) (r : Row) (l : List Row) → when b r ≡ l → (b && f r) ≡ some f l
+-- a step is there, and is tested; or none is
+pub some_step : (f : Row → Bool) (r : Row) (l : List Row) → r ∷ [] ≡ l → f r ≡ some f l
 unfolding some
-some_when f true r l e = sym (or-false (f r)) ∙ ap (some f) e
-some_when f false r l e = ap (some f) e
+some_step f r l e = sym (or-false (f r)) ∙ ap (some f) e
+
+pub no_step : (f : Row → Bool) (l : List Row) → [] ≡ l → false ≡ some f l
+unfolding some
+no_step f l e = ap (some f) e
 
 -- a rule with reasons is an object rule
 pub object_is : (P : List ℕ) (s n a b : ℕ) → rows_from P a (b - a) ≡ part_of (rows_of P) s n 1 → ltb a b ≡ is_object (rows_of P) s n

@@ -28,6 +28,7 @@ pub struct Near {
 }
 
 // The id is above that of every atom, as a plan's often is.
+#[tactic(auto, using(crate::proofs::Words::past_absent))]
 fn is_past(words: &[u32], atoms: u32, id: u32) -> bool
     requires { AtomsStand words.now atoms }
     ensures { result ≡ true → member id (atom_ids_of atoms words.now) ≡ false }
@@ -68,7 +69,7 @@ fn near_to(words: &[u32], atoms: u32, id: u32, guess: usize) -> usize
     if id == 0 {
         return guess;
     }
-    state::find_near(words, atoms, id, guess)
+    state::find_near(words, atoms, id, guess).unwrap_or(guess)
 }
 
 pub fn near_of(words: &[u32], atoms: u32, k: usize, near: Near) -> Near
@@ -97,11 +98,12 @@ pub fn near_of(words: &[u32], atoms: u32, k: usize, near: Near) -> Near
 }
 
 // An atom with this id lives.
+#[tactic(auto, using(state::proofs::Near::found_is))]
 fn is_atom(words: &[u32], atoms: u32, id: u32, guess: usize) -> bool
     requires { AtomsStand words.now atoms }
     ensures { result ≡ member id (atom_ids_of atoms words.now) }
 {
-    state::find_near(words, atoms, id, guess) < atoms as usize
+    state::find_near(words, atoms, id, guess).is_some()
 }
 
 // Word j may stand behind word i among the justifications of the plan with this id.
@@ -157,6 +159,7 @@ fn node_formed(words: &[u32], scalars: Scalars, k: usize, near: Near) -> bool
 }
 
 // The row, as a step of plan k, makes atom i.
+#[tactic(auto, unfolding(model::specs::WellFormed::makes_atom))]
 fn makes_atom(words: &[u32], k: usize, row: Row, i: usize) -> bool
     requires { (length words.now ≡ 2432) × (k < 64) × (i < 256) }
     ensures { result ≡ makes_atom (plan_at words.now k).values row (atom_at words.now i) }
@@ -167,17 +170,17 @@ fn makes_atom(words: &[u32], k: usize, row: Row, i: usize) -> bool
 }
 
 // The row is a subgoal step, and as a step of plan k makes the atom that is the plan's subgoal.
+#[tactic(auto, using(crate::proofs::Steps::subgoal_found, crate::proofs::Steps::subgoal_absent))]
 fn is_subgoal_step(words: &[u32], scalars: Scalars, k: usize, row: Row, guess: usize) -> bool
     requires { AtomsStand words.now scalars.atoms × (k < 64) }
     ensures { result ≡ is_subgoal_step (config_of words.now scalars) (plan_at words.now k) row }
 {
     let atoms = scalars.atoms;
     let subgoal = state::plan_subgoal(words, k);
-    let i = state::find_near(words, atoms, subgoal, guess);
-    if atoms as usize <= i {
-        return false;
+    match state::find_near(words, atoms, subgoal, guess) {
+        Some(i) => (row.op == 36) & makes_atom(words, k, row, i),
+        None => false,
     }
-    (row.op == 36) & makes_atom(words, k, row, i)
 }
 
 // "a plan with a subgoal has as first step a subgoal step equal to that atom"
@@ -195,8 +198,10 @@ fn subgoal_first(
     if state::plan_subgoal(words, k) == 0 {
         return true;
     }
-    let x = plan_steps::next_step(program, words, k, span);
-    x.found & is_subgoal_step(words, scalars, k, x.row, guess)
+    match plan_steps::next_step(program, words, k, span) {
+        Some(row) => is_subgoal_step(words, scalars, k, row, guess),
+        None => false,
+    }
 }
 
 // Where a rule's reasons and body stand, and the highest that each value of its plans may be: that of no value, or of a value
@@ -232,19 +237,17 @@ fn limits_of(program: &[u32], from: usize, to: usize) -> [u32; 8]
     ensures { Limited result (rows_from program.now from (to - from)) }
 {
     let mut limits = [state::NO_VALUE; 8];
-    let mut j = from;
-    while j < to {
+    for j in from..to {
         let row = program::row_at(program, j);
         let first = demand_value(limits, row.i);
         let second = demand_value(first, row.a);
-        let third = demand_value(second, row.b);
-        limits = third;
-        j += 1;
+        limits = demand_value(second, row.b);
     }
     limits
 }
 
 // No value of plan k is above its limit.
+#[tactic(auto, unfolding(crate::specs::Plans::within_limits, lists::specs::Lists::every))]
 fn within_limits(words: &[u32], k: usize, limits: [u32; 8]) -> bool
     requires { (length words.now ≡ 2432) × (k < 64) }
     ensures { result ≡ within_limits limits (plan_at words.now k).values }
@@ -309,6 +312,7 @@ fn plan_formed(
 }
 
 // Links and parts of plan k are well formed.
+#[tactic(auto, unfolding(crate::specs::Plans::plan_fits))]
 pub fn plan_fits(
     program: &[u32],
     words: &[u32],
@@ -329,6 +333,8 @@ pub fn acts_first(program: &[u32], words: &[u32], k: usize) -> bool
     ensures { result ≡ acts_first (rows_of program.now) (plan_at words.now k) }
 {
     let body = plan_steps::body_of(program, words, k);
-    let x = plan_steps::next_step(program, words, k, body);
-    x.found & (x.row.op == 31)
+    match plan_steps::next_step(program, words, k, body) {
+        Some(row) => row.op == 31,
+        None => false,
+    }
 }

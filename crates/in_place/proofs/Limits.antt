@@ -1,7 +1,7 @@
 -- The rows of a sense meet no limit where there is room for as many atoms.
+use Rattle.std.specs.Prelude.{Result, Ok, Err, IsErr, OnErr}
 use mathlib.Core.Path.{◌≡◌, refl}
 use mathlib.Core.Bool.{Bool, true, false}
-use mathlib.Core.Logic.{◌≢◌}
 use mathlib.Core.List.{List, [], ◌∷◌}
 use Prim.Native.Nat.{ℕ, ◌+◌, ◌/◌, ◌≤◌}
 use native.Mathlib.Omega.{arith}
@@ -9,6 +9,7 @@ use lib.Dec.{eqb}
 use lib.ListN.{length}
 use Rattle.lists.proofs.Cuts.{if_either}
 use Rattle.model.specs.declared.Row.{Row}
+use Rattle.model.specs.declared.refusal.Refusal.{Refusal}
 use Rattle.model.specs.Configuration.{Config, atom_alive}
 use Rattle.model.specs.Log.{Log, begin, emit_atom, Outcome, refused, accepted, and_then}
 use Rattle.model.specs.Calls.{Reading, taken_as, equal_atoms, withdraw_if, withdraw, make_atom, sense_row, sense_rows}
@@ -17,6 +18,7 @@ use Rattle.state.specs.declared.Scalars.{Scalars}
 use Rattle.state.specs.View.{config_of}
 use Rattle.state.proofs.Live.{atoms_counted}
 use Rattle.stepping.proofs.Room.{atom_free}
+use Rattle.deletion.specs.declared.Removal.{Removal}
 use Rattle.sensing.specs.Sensing.{readings_from, Shows, SensesRows}
 use Rattle.acting.proofs.Answers.{RoomFor, Accepts, room_kept, room_taken, room_left, no_bar}
 use Rattle.in_place.proofs.Sensed.{readings_count}
@@ -54,10 +56,11 @@ accepts_all program (r ∷ rs) L h = at (sense_row program r L) (senses (length 
     at (refused m) g more = absurd g
     at (accepted M) g more = more M g
 
-pub no_limit : (program words rows : List ℕ) (s : Scalars) (number : ℕ) (words' : List ℕ) (s' : Scalars) (gone : ℕ) → s.next + length rows / 4 ≤ 65536 → s.atoms + length rows / 4 ≤ 256 →
-    SensesRows (rows_of program) (readings_from rows 0 (length rows / 4)) (config_of words s) number (config_of words' s') gone → number ≡ 0
+-- so they are not refused
+pub no_limit : (program words rows : List ℕ) (s : Scalars) (words' : List ℕ) (r : Result Removal Refusal) → s.next + length rows / 4 ≤ 65536 → s.atoms + length rows / 4 ≤ 256 →
+    SensesRows (rows_of program) (readings_from rows 0 (length rows / 4)) (config_of words s) words' r → OnErr r (words' ≡ words)
 unfolding SensesRows
-no_limit program words rows s number words' s' gone h k f = at (sense_rows (rows_of program) (readings_from rows 0 (length rows / 4)) L) (accepts_all (rows_of program) (readings_from rows 0 (length rows / 4)) L room) (f L refl)
+no_limit program words rows s words' r h k f = at (sense_rows (rows_of program) (readings_from rows 0 (length rows / 4)) L) r (accepts_all (rows_of program) (readings_from rows 0 (length rows / 4)) L room) (f L refl)
   where
     L : Log
     L = begin (config_of words s)
@@ -65,15 +68,17 @@ no_limit program words rows s number words' s' gone h k f = at (sense_rows (rows
     room : RoomFor (length (readings_from rows 0 (length rows / 4))) (begin (config_of words s))
     room = let c = readings_count rows in let n = atoms_counted words s in (omega arith, omega arith)
 
-    at : (o : Outcome) → Accepts o → Shows o number (config_of words' s') (0 + gone) → number ≡ 0
-    at (refused m) a b = absurd a
-    at (accepted M) a b = b.0
+    at : (o : Outcome) (r : Result Removal Refusal) → Accepts o → Shows o 0 words' r → OnErr r (words' ≡ words)
+    at o (Ok x) a g = tt
+    at (refused m) (Err b) a g = absurd a
+    at (accepted M) (Err b) a g = absurd g
 
 -- rows that are refused leave what they will
-pub still_refused : (program : List Row) (rs : List Reading) (c : Config) (number : ℕ) (d e : Config) (gone : ℕ) → number ≢ 0 → SensesRows program rs c number d gone → SensesRows program rs c number e gone
+pub still_refused : (program : List Row) (rs : List Reading) (c : Config) (words words' : List ℕ) (r : Result Removal Refusal) → IsErr r → SensesRows program rs c words r → SensesRows program rs c words' r
 unfolding SensesRows
-still_refused program rs c number d e gone z f L q = at (sense_rows program rs L) (f L q)
+still_refused program rs c words words' r z f L q = at (sense_rows program rs L) r z (f L q)
   where
-    at : (o : Outcome) → Shows o number d (L.gone + gone) → Shows o number e (L.gone + gone)
-    at (refused n) g = g
-    at (accepted M) g = absurd (z g.0)
+    at : (o : Outcome) (r : Result Removal Refusal) → IsErr r → Shows o L.gone words r → Shows o L.gone words' r
+    at (refused n) r z g = g
+    at (accepted M) (Ok x) z g = cc
+    at (accepted M) (Err b) z g = g

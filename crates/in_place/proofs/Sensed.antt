@@ -1,4 +1,5 @@
 -- sense, test by test.
+use Rattle.std.specs.Prelude.{Ok, Err}
 use mathlib.Core.Path.{◌≡◌, refl, sym, ap, ◌∙◌, subst}
 use mathlib.Core.Bool.{Bool, true, false, not, ◌||◌}
 use mathlib.Core.Logic.{◌≢◌, ⊎_elim}
@@ -13,7 +14,10 @@ use Rattle.lists.proofs.Lists.{test, clash, in_right, or_right}
 use Rattle.lists.proofs.Tests.{every_all, length_count_up}
 use Rattle.lists.proofs.Bind.{append-nil}
 use Rattle.model.specs.declared.Row.{Row}
+use Rattle.model.specs.declared.refusal.Refusal.{Refusal}
+use Rattle.model.specs.Refusals.{number_of}
 use Rattle.model.specs.Configuration.{Config, with_phase}
+use Rattle.deletion.specs.declared.Removal.{Removal}
 use Rattle.model.specs.Graph.{Graph}
 use Rattle.model.specs.Deletion.{graph}
 use Rattle.model.specs.Log.{begin, quiet, Outcome, refused, accepted, unless, and_then, answer_of, called}
@@ -88,9 +92,9 @@ module _ (program : List ℕ) (c : Config) (rows : List ℕ) where
     pub sense_6_waiting : c.waiting ≢ 0 → call ≡ refused 6
     sense_6_waiting z = past_1 ∙ unless_true _ 6 _ (or_right (not (eqb c.phase 0)) (ap not (ne_eqb c.waiting 0 z)))
 
-    module _ (p : c.phase ≡ 0) (w : c.waiting ≡ 0) where
+    module _ (p : c.phase ≡ 0) (idle : c.waiting ≡ 0) where
       past_6 : call ≡ unless (ltb 64 (length (readings_of rows)) || not (every in_range (readings_of rows))) 7 work
-      past_6 = past_1 ∙ unless_false _ 6 _ (ap (λ (b : Bool). not b || not (eqb c.waiting 0)) (eq-eqb c.phase 0 p) ∙ ap not (eq-eqb c.waiting 0 w))
+      past_6 = past_1 ∙ unless_false _ 6 _ (ap (λ (b : Bool). not b || not (eqb c.waiting 0)) (eq-eqb c.phase 0 p) ∙ ap not (eq-eqb c.waiting 0 idle))
 
       pub sense_7_many : 256 < length rows → call ≡ refused 7
       sense_7_many h = past_6 ∙ unless_true _ 7 _ (ap (λ (b : Bool). b || not (every in_range (readings_of rows))) (lt-ltb 64 (length (readings_of rows)) (too_many rows h)))
@@ -112,42 +116,42 @@ module _ (program : List ℕ) (c : Config) (rows : List ℕ) where
               ∙ ap (λ (rs : List Reading). and_then (sense_rows (rows_of program) rs (begin c)) (λ L. accepted (quiet (with_phase 1) L))) (whole_readings rows e)
 
           -- the work's refusal, or its log
-          pub sense_barred : (number : ℕ) (d : Config) (gone : ℕ) → number ≢ 0 → SensesRows (rows_of program) (readings_from rows 0 (length rows / 4)) c number d gone → call ≡ refused number
+          pub sense_barred : (words : List ℕ) (e : Refusal) → SensesRows (rows_of program) (readings_from rows 0 (length rows / 4)) c words (Err e) → call ≡ refused (number_of e)
           unfolding SensesRows and_then
-          sense_barred number d gone z s = past_7 ∙ at (sense_rows (rows_of program) (readings_from rows 0 (length rows / 4)) (begin c)) (s (begin c) refl)
+          sense_barred words e s = past_7 ∙ at (sense_rows (rows_of program) (readings_from rows 0 (length rows / 4)) (begin c)) (s (begin c) refl)
             where
-              at : (o : Outcome) → Shows o number d (0 + gone) → and_then o (λ L. accepted (quiet (with_phase 1) L)) ≡ refused number
-              at (refused n) g = ap refused (sym g.1)
-              at (accepted L) g = absurd (z g.0)
+              at : (o : Outcome) → Shows o 0 words (Err e) → and_then o (λ L. accepted (quiet (with_phase 1) L)) ≡ refused (number_of e)
+              at (refused n) g = ap refused g
+              at (accepted L) g = absurd g
 
-          pub sense_done : (number : ℕ) (d : Config) (made gone : ℕ) → number ≡ 0 → SensesRows (rows_of program) (readings_from rows 0 (length rows / 4)) c number d gone → made ≡ d.next - c.next → (f : Config) → f ≡ with_phase 1 d →
-              record { number = 0; did = called; config = f; made = made; gone = gone } ≡ answer_of c call
+          pub sense_done : (words : List ℕ) (x : Removal) (made : ℕ) → SensesRows (rows_of program) (readings_from rows 0 (length rows / 4)) c words (Ok x) → made ≡ x.scalars.next - c.next → (f : Config) → f ≡ with_phase 1 (config_of words x.scalars) →
+              record { number = 0; did = called; config = f; made = made; gone = x.gone } ≡ answer_of c call
           unfolding SensesRows and_then answer_of
-          sense_done number d made gone z s q f r = at (sense_rows (rows_of program) (readings_from rows 0 (length rows / 4)) (begin c)) refl (s (begin c) refl)
+          sense_done words w made s q f r = at (sense_rows (rows_of program) (readings_from rows 0 (length rows / 4)) (begin c)) refl (s (begin c) refl)
             where
-              at : (o : Outcome) → sense_rows (rows_of program) (readings_from rows 0 (length rows / 4)) (begin c) ≡ o → Shows o number d (0 + gone) → record { number = 0; did = called; config = f; made = made; gone = gone } ≡ answer_of c call
-              at (refused n) k g = absurd (omega (arith, g, z))
+              at : (o : Outcome) → sense_rows (rows_of program) (readings_from rows 0 (length rows / 4)) (begin c) ≡ o → Shows o 0 words (Ok w) → record { number = 0; did = called; config = f; made = made; gone = w.gone } ≡ answer_of c call
+              at (refused n) k g = absurd g
               at (accepted L) k g =
                   let u : called ≡ L.did = sym (after_of Called (called_rows (rows_of program) (readings_from rows 0 (length rows / 4)) (begin c) refl) k) in
-                  let v : f ≡ with_phase 1 L.config = r ∙ ap (with_phase 1) (sym g.1) in
-                  let x : made ≡ L.config.next - c.next = q ∙ ap (λ (y : Config). y.next - c.next) (sym g.1) in
-                  let y : gone ≡ L.gone = omega (arith, g.2) in
+                  let v : f ≡ with_phase 1 L.config = r ∙ ap (with_phase 1) (sym g.0) in
+                  let x : made ≡ L.config.next - c.next = q ∙ ap (λ (y : Config). y.next - c.next) (sym g.0) in
+                  let y : w.gone ≡ L.gone = omega (arith, g.1) in
                   (λ i. record { number = 0; did = u i; config = v i; made = x i; gone = y i }) ∙ ap (answer_of c) (sym (past_7 ∙ ap (λ (o : Outcome). and_then o (λ M. accepted (quiet (with_phase 1) M))) k))
 
           -- ids are only given out
-          pub sense_rises : (number : ℕ) (d : Config) (gone : ℕ) → number ≡ 0 → SensesRows (rows_of program) (readings_from rows 0 (length rows / 4)) c number d gone → c.next ≤ d.next
+          pub sense_rises : (words : List ℕ) (x : Removal) → SensesRows (rows_of program) (readings_from rows 0 (length rows / 4)) c words (Ok x) → c.next ≤ x.scalars.next
           unfolding SensesRows
-          sense_rises number d gone z s = at (sense_rows (rows_of program) (readings_from rows 0 (length rows / 4)) (begin c)) (good_rows (rows_of program) c g.lawful_rows (readings_from rows 0 (length rows / 4)) h (begin c) (good_begin (rows_of program) c g.shaped w)) (s (begin c) refl)
+          sense_rises words w s = at (sense_rows (rows_of program) (readings_from rows 0 (length rows / 4)) (begin c)) (good_rows (rows_of program) c g.lawful_rows (readings_from rows 0 (length rows / 4)) h (begin c) (good_begin (rows_of program) c g.shaped idle)) (s (begin c) refl)
             where
               g : Formed program c
               g = admitted_well program c a
 
-              at : (o : Outcome) → After (Good (rows_of program) c) o → Shows o number d (0 + gone) → c.next ≤ d.next
-              at (refused n) k e = absurd (omega (arith, e, z))
+              at : (o : Outcome) → After (Good (rows_of program) c) o → Shows o 0 words (Ok w) → c.next ≤ w.scalars.next
+              at (refused n) k e = absurd e
               at (accepted L) k e =
                   let f = after_of (Good (rows_of program) c) k refl in
                   let x = changes_next (graph c) L.events in
                   let y = ap (λ (b : Graph). b.next) f.faithful.turns in
-                  let u : (graph L.config).next ≡ d.next = ap (λ (b : Config). b.next) e.1 in
+                  let u : (graph L.config).next ≡ w.scalars.next = ap (λ (b : Config). b.next) e.0 in
                   let v : (graph c).next ≡ c.next = refl in
                   omega arith

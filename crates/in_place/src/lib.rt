@@ -1,7 +1,7 @@
 // The calls in place: each works on the words that it is lent. A refused call leaves them as they were.
 #![tactic(auto)]
 
-ghost use Rattle.std.specs.Prelude.{◌≡◌, ◌≢◌, ◌||◌, ◌/◌, ◌≤◌, length};
+ghost use Rattle.std.specs.Prelude.{◌≡◌, ◌≢◌, ◌||◌, ◌/◌, ◌≤◌, length, OnErr};
 ghost use Rattle.model.specs.Claims.{to_sense, to_step, to_answer, to_delete, reply};
 ghost use Rattle.model.specs.Run.{run as run-of-steps};
 ghost use Rattle.model.specs.Configuration.{atom_alive, plan_alive};
@@ -11,8 +11,9 @@ ghost use Rattle.sensing.specs.Sensing.{readings_from, Ready, SensesRows};
 ghost use Rattle.in_place.specs.Given.{given_rows, admitted, Admitted, readings_of};
 ghost use Rattle.in_place.specs.Changes.{left_by, refusal, step_left_by, step_refusal, run_left_by, run_refusal};
 
+use deletion::Removal;
+use model::Refusal;
 use running::Stop;
-use sensing::Work;
 use state::Scalars;
 use stepping::Did;
 
@@ -74,9 +75,8 @@ fn is_alive(words: &[u32], scalars: Scalars, id: u32) -> bool
     requires { SoundWords words.now scalars }
     ensures { result ≡ (atom_alive (config_of words.now scalars) id || plan_alive (config_of words.now scalars) id) }
 {
-    let i = state::find_atom(words, scalars.atoms, id);
-    let k = state::find_plan(words, scalars.plans, id);
-    (i < scalars.atoms as usize) | (k < scalars.plans as usize)
+    state::find_atom(words, scalars.atoms, id).is_some()
+        || state::find_plan(words, scalars.plans, id).is_some()
 }
 
 // "delete, not while waiting: an id, atom or plan." Refusals 1, 6, 12.
@@ -140,7 +140,7 @@ pub fn answer_admitted(program: &[u32], words: &mut [u32], scalars: Scalars, n: 
     if 1 < n {
         return refuse(scalars, 7);
     }
-    let k = state::find_plan(words, scalars.plans, id);
+    let k = state::find_plan(words, scalars.plans, id).unwrap();
     let idle = scalars.with_waiting(0);
     if n == 1 {
         stepping::succeed(words, idle, k);
@@ -157,20 +157,25 @@ pub fn answer_admitted(program: &[u32], words: &mut [u32], scalars: Scalars, n: 
 
 // "a refused call undoes its earlier part": where a row could meet a limit the words are kept beside, and put back if one does. None can
 // where as many atoms could be made as there are rows.
-fn sense_or_restore(program: &[u32], words: &mut [u32], scalars: Scalars, rows: &[u32]) -> Work
+fn sense_or_restore(
+    program: &[u32],
+    words: &mut [u32],
+    scalars: Scalars,
+    rows: &[u32],
+) -> Result<Removal, Refusal>
     requires { Ready words.old scalars × (length rows.now ≤ 256) }
-    ensures senses_rows { SensesRows (rows_of program.now) (readings_from rows.now 0 (length rows.now / 4)) (config_of words.old scalars) result.number (config_of words.new result.scalars) result.gone }
-    ensures untouched { result.number ≢ 0 → words.new ≡ words.old }
+    ensures senses_rows { SensesRows (rows_of program.now) (readings_from rows.now 0 (length rows.now / 4)) (config_of words.old scalars) words.new result }
+    ensures untouched { OnErr result (words.new ≡ words.old) }
 {
     let n = (rows.len() / 4) as u32;
     if (scalars.next <= 65536 - n) & (scalars.atoms <= 256 - n) {
         return sensing::sense_rows(program, words, scalars, rows);
     }
     let mut saved = [0u32; 2432];
-    slices::copy(words, &mut saved);
+    saved.copy_from_slice(words);
     let w = sensing::sense_rows(program, words, scalars, rows);
-    if w.number != 0 {
-        slices::copy(&saved, words);
+    if w.is_err() {
+        words.copy_from_slice(&saved);
     }
     w
 }
@@ -209,17 +214,17 @@ pub fn sense_admitted(program: &[u32], words: &mut [u32], scalars: Scalars, rows
     if !sensing::rows_in_range(rows) {
         return refuse(scalars, 7);
     }
-    let w = sense_or_restore(program, words, scalars, rows);
-    if w.number != 0 {
-        return refuse(scalars, w.number);
-    }
-    let left = w.scalars;
-    let made = left.next - scalars.next;
-    Change {
-        scalars: left.with_phase(1),
-        number: 0,
-        made,
-        gone: w.gone,
+    match sense_or_restore(program, words, scalars, rows) {
+        Ok(left) => {
+            let made = left.scalars.next - scalars.next;
+            Change {
+                scalars: left.scalars.with_phase(1),
+                number: 0,
+                made,
+                gone: left.gone,
+            }
+        }
+        Err(refusal) => refuse(scalars, refusal.number()),
     }
 }
 

@@ -1,5 +1,5 @@
 -- Lists given by their places, elements kept by marks, and where a number stands: what tables of words show.
-use Rattle.std.specs.Prelude.{Bool, List, [], ◌∷◌, ◌++◌, ℕ, zero, suc, eqb, if◌then◌else◌}
+use Rattle.std.specs.Prelude.{◌≡◌, Bool, List, [], ◌∷◌, ◌++◌, ℕ, zero, suc, ◌<◌, eqb, if◌then◌else◌, Option, MatchOption}
 use Rattle.lists.specs.Lists.{put}
 
 module _ {A : Type 0} where
@@ -18,6 +18,10 @@ module _ {A : Type 0} where
 unfoldable pub index_of : ℕ → List ℕ → ℕ
 index_of x [] = 0
 index_of x (y ∷ l) = if eqb x y then 0 else suc (index_of x l)
+
+-- where x stands among n numbers, if it does
+abbrev pub PlaceOf : ℕ → ℕ → List ℕ → Option ℕ → Type 0
+PlaceOf n x l r = MatchOption r (index_of x l ≡ n) (λ k. (k ≡ index_of x l) × (k < n))
 
 -- x in front of l, unless nothing but zeros would follow
 abbrev pub trim_cons : ℕ → List ℕ → List ℕ

@@ -1,4 +1,5 @@
 -- A load that is refused leaves the configuration; an accepted one has the rows first in the lent program, and starts from them.
+use Rattle.std.specs.Prelude.{Ok, Err}
 use mathlib.Core.Path.{◌≡◌, refl, ap, ap₂, sym, ◌∙◌}
 use mathlib.Core.List.{List, ◌∷◌, ◌++◌}
 use Prim.Native.Nat.{ℕ, zero, suc, ◌+◌, ◌*◌, ◌/◌, ◌≤◌}
@@ -15,7 +16,8 @@ use Rattle.model.specs.Load.{load, loaded, refused}
 use Rattle.program_laws.specs.Lawful.{Lawful}
 use Rattle.program_laws.proofs.Lawful.{lawful}
 use Rattle.program_laws.proofs.WellFormed.{loads_well_formed}
-use Rattle.program.specs.declared.Loaded.{Loaded}
+use Rattle.model.specs.declared.refusal.LoadError.{LoadError}
+use Rattle.model.specs.Refusals.{number_of}
 use Rattle.program.specs.Rows.{row_of, row_at, rows_from, rows_of, words_of}
 use Rattle.program.specs.Loading as Loading
 use Rattle.program.specs.Loading.{Answer, loading, answer_of}
@@ -23,6 +25,7 @@ use Rattle.program.proofs.Words.{length_words}
 use Rattle.program.proofs.Accepts.{Accepts, number_0, rows_of_words}
 use Rattle.state.specs.declared.Config.{Config}
 use Rattle.state.specs.View.{config_of}
+use Rattle.state.proofs.Room.{numbered}
 use Rattle.loading.specs.Starting.{started_from, starting, seen}
 
 -- rows that stand first in the words
@@ -51,43 +54,44 @@ module _ (text lent : List ℕ) where
       go (loaded rows) h = absurd (h refl)
       go (refused n k) h = refl
 
-  module _ (r : Loaded) (after : List ℕ) (e : Loading.seen r after ≡ loading text lent) where
-    pub refused_start : (config : Config) → (r.number ≡ 0 → ⊥) →
-        seen (record { config = config; number = r.number; line = r.line; rows = r.rows }) after ≡ starting text lent (config_of config.words config.scalars)
+  module _ (e : LoadError) (after : List ℕ) (q : Loading.seen (Err e) after ≡ loading text lent) where
+    pub refused_start : (config : Config) (n : ℕ) → n ≡ number_of e.refusal →
+        seen (record { config = config; number = n; line = e.line; rows = 0 }) after ≡ starting text lent (config_of config.words config.scalars)
     unfolding Loading.seen seen starting
-    refused_start config h =
-        let number : r.number ≡ (loading text lent).number = ap (λ (a : Answer). a.number) e in
-        let same = kept (config_of config.words config.scalars) (λ z. h (number ∙ z)) in
+    refused_start config n m =
+        let number : number_of e.refusal ≡ (loading text lent).number = ap (λ (a : Answer). a.number) q in
+        let same = kept (config_of config.words config.scalars) (λ z. numbered e.refusal (number ∙ z)) in
+        let answer = ap {B = Answer} (λ (k : ℕ). record { number = k; line = e.line; rows = 0; program = after }) m ∙ q in
+        λ i. record { answer = answer i; config = same i }
+
+  module _ (r : ℕ) (after : List ℕ) (e : Loading.seen (Ok r) after ≡ loading text lent) where
+    accepts : Accepts text lent
+    unfolding Loading.seen
+    accepts = number_0 text lent (sym (ap (λ (a : Answer). a.number) e))
+
+    -- the rows that the text loads to stand first in the lent program
+    rows_are : rows_from after 0 r ≡ accepts.rows
+    unfolding Loading.seen loading answer_of
+    rows_are =
+        let l = accepts.loads in
+        let f : loading text lent ≡ answer_of lent (loaded accepts.rows) = ap (answer_of lent) l in
+        let count : r ≡ length accepts.rows = ap (λ (a : Answer). a.rows) (e ∙ f) in
+        let words : after ≡ words_of accepts.rows ++ drop (length accepts.rows * 8) lent = ap (λ (a : Answer). a.program) (e ∙ f) in
+        ap₂ {C = List Row} (λ (w : List ℕ) (n : ℕ). rows_from w 0 n) words count ∙ rows_first accepts.rows (drop (length accepts.rows * 8) lent)
+
+    lawful_rows : Lawful accepts.rows
+    lawful_rows = lawful accepts.rows (loads_well_formed text accepts.rows accepts.loads)
+
+    pub few_rows : r ≤ 512
+    unfolding Loading.seen
+    few_rows = omega (arith, lawful_rows.few_rows, accepts.counts, ap (λ (a : Answer). a.rows) e)
+
+    pub few_initial : length (initial_atoms (rows_from after 0 r)) ≤ 256
+    few_initial = rw rows_are lawful_rows.few_initial
+
+    pub accepted_start : (c : Model.Config) (s : Config) → config_of s.words s.scalars ≡ fresh (rows_from after 0 r) →
+        seen (record { config = s; number = 0; line = 0; rows = r }) after ≡ starting text lent c
+    unfolding Loading.seen seen starting started_from
+    accepted_start c s q =
+        let same : config_of s.words s.scalars ≡ started_from c (load text) = q ∙ ap fresh rows_are ∙ ap (started_from c) (sym accepts.loads) in
         λ i. record { answer = e i; config = same i }
-
-    module _ (z : r.number ≡ 0) where
-      accepts : Accepts text lent
-      unfolding Loading.seen
-      accepts = number_0 text lent (sym (ap (λ (a : Answer). a.number) e) ∙ z)
-
-      -- the rows that the text loads to stand first in the lent program
-      rows_are : rows_from after 0 r.rows ≡ accepts.rows
-      unfolding Loading.seen loading answer_of
-      rows_are =
-          let l = accepts.loads in
-          let f : loading text lent ≡ answer_of lent (loaded accepts.rows) = ap (answer_of lent) l in
-          let count : r.rows ≡ length accepts.rows = ap (λ (a : Answer). a.rows) (e ∙ f) in
-          let words : after ≡ words_of accepts.rows ++ drop (length accepts.rows * 8) lent = ap (λ (a : Answer). a.program) (e ∙ f) in
-          ap₂ {C = List Row} (λ (w : List ℕ) (n : ℕ). rows_from w 0 n) words count ∙ rows_first accepts.rows (drop (length accepts.rows * 8) lent)
-
-      lawful_rows : Lawful accepts.rows
-      lawful_rows = lawful accepts.rows (loads_well_formed text accepts.rows accepts.loads)
-
-      pub few_rows : r.rows ≤ 512
-      unfolding Loading.seen
-      few_rows = omega (arith, lawful_rows.few_rows, accepts.counts, ap (λ (a : Answer). a.rows) e)
-
-      pub few_initial : length (initial_atoms (rows_from after 0 r.rows)) ≤ 256
-      few_initial = rw rows_are lawful_rows.few_initial
-
-      pub accepted_start : (c : Model.Config) (s : Config) → config_of s.words s.scalars ≡ fresh (rows_from after 0 r.rows) →
-          seen (record { config = s; number = r.number; line = r.line; rows = r.rows }) after ≡ starting text lent c
-      unfolding Loading.seen seen starting started_from
-      accepted_start c s q =
-          let same : config_of s.words s.scalars ≡ started_from c (load text) = q ∙ ap fresh rows_are ∙ ap (started_from c) (sym accepts.loads) in
-          λ i. record { answer = e i; config = same i }

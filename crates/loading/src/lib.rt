@@ -65,20 +65,18 @@ pub fn load(text: &[u8], program: &mut [u32; 4096], config: Config) -> Started
     ensures program_after { seen result program.new ≡ starting text.now program.old (config_of config.words config.scalars) }
     ensures untouched { (result.number ≡ 0 → ⊥) → result.config ≡ config }
 {
-    let l = program::load(text, program);
-    if l.number != 0 {
-        return Started {
-            config: config,
-            number: l.number,
-            line: l.line,
-            rows: l.rows,
-        };
-    }
-    let started = start(program, l.rows as usize);
-    Started {
-        config: started,
-        number: l.number,
-        line: l.line,
-        rows: l.rows,
+    match program::load(text, program) {
+        Ok(rows) => Started {
+            config: start(program, rows as usize),
+            number: 0,
+            line: 0,
+            rows,
+        },
+        Err(error) => Started {
+            config,
+            number: error.refusal.number(),
+            line: error.line,
+            rows: 0,
+        },
     }
 }

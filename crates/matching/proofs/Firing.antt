@@ -28,8 +28,8 @@ use Rattle.state.specs.View.{config_of}
 use Rattle.queries.specs.View.{found_in, found_of}
 use Rattle.queries.specs.Answers.{answers}
 use Rattle.matching.specs.declared.Rule.{Rule}
-use Rattle.matching.specs.declared.Choice.{Choice}
-use Rattle.matching.specs.Rules.{rows_between, reasons_in, Located, counted, match_in, choice_of}
+use Rattle.queries.specs.declared.Bindings.{Bindings}
+use Rattle.matching.specs.Rules.{rows_between, reasons_in, Located, counted, Chosen}
 use Rattle.matching.proofs.Rows.{counted_next}
 use Rattle.matching.proofs.Rules.{rows_join, top, fired, fires, fires_next, fires_end, no_rule}
 
@@ -43,6 +43,10 @@ pub record Parts (program : List ℕ) (s n start behind mid end : ℕ) : Type 0 
   pub second : Bound program s n 2 behind
   pub third : Bound program s n 3 mid
   pub fourth : Bound program s n 4 end
+
+pub parts : {program : List ℕ} {s n start behind mid end : ℕ} → Bound program s n 1 start → Bound program s n 2 behind → Bound program s n 3 mid → Bound program s n 4 end →
+    Parts program s n start behind mid end
+parts a b d e = record { first = a; second = b; third = d; fourth = e }
 
 module _ (program : List ℕ) (s n start behind mid end : ℕ) (x : Parts program s n start behind mid end) where
   abbrev P : List Row
@@ -76,6 +80,9 @@ module _ (program : List ℕ) (s n start behind mid end : ℕ) (x : Parts progra
     object_is = object_are;
     body_is = span_is program s n 3 mid end x.third x.fourth;
   }
+
+  pub chosen_here : (f : Bindings) → f.count ≤ 4 → Chosen program s (record { bindings = f; rule = rule_at })
+  chosen_here f h = record { set_is = refl; located = located; few = h }
 
   no_reason : (r : Row) → In r (context P s n) → eqb r.part 1 ≡ false
   unfolding part_of
@@ -144,14 +151,6 @@ module _ (g : Found → Firing) (l : List Found) (rest : List Firing) (a : List 
       at [] q = clash refl q
       at (x ∷ l) q = refl
 
--- what the search found: nothing, or a match
-module _ (values matched : List ℕ) (n : ℕ) where
-  pub match_none : n ≡ 0 → match_in values matched n ≡ []
-  match_none e = ap (λ (b : Bool). if b then [] else found_in values matched (n - 1) ∷ []) (eq-eqb n 0 e)
-
-  pub match_one : n ≢ 0 → match_in values matched n ≡ found_in values matched (n - 1) ∷ []
-  match_one e = ap (λ (b : Bool). if b then [] else found_in values matched (n - 1) ∷ []) (ne_eqb n 0 e)
-
 -- its answer, as a firing
 pub firing_first : (program words : List ℕ) (scalars : Scalars) (rule : Rule) (start : ℕ) (x : Found) (m : List Found) →
     m ≡ first_of (counted program words scalars rule (start + 1) x) → map (fired rule.number) m ≡ first_of (follow program words scalars rule start x)
@@ -159,35 +158,26 @@ unfolding follow
 firing_first program words scalars rule start x m e =
     ap (map (fired rule.number)) e ∙ sym (first_map (fired rule.number) (counted program words scalars rule (start + 1) x))
 
-pub choice_none : (x : Choice) → x.found ≡ false → choice_of x ≡ []
-choice_none x h = ap (λ (b : Bool). when b (fired x.rule.number (found_of x.bindings))) h
-
--- the choice so far: none has fired, and the first to fire is the first of the rules from n on, whose rows begin at start
-pub record Choosing (program words : List ℕ) (scalars : Scalars) (s : ℕ) (best : Choice) (n start : ℕ) : Type 0 where
-  pub none : best.found ≡ false
+-- no rule has fired yet, and the first to fire is the first of the rules from n on, whose rows begin at start
+pub record Choosing (program words : List ℕ) (scalars : Scalars) (s n start : ℕ) : Type 0 where
   pub positive : 1 ≤ n
   pub bound : Bound program s n 1 start
   pub is : firing (rows_of program) (config_of words scalars) s ≡ first_of (fires (rows_of program) (config_of words scalars) s n)
 
-module _ (program words : List ℕ) (scalars : Scalars) (s : ℕ) (best : Choice) (n start : ℕ) (x : Choosing program words scalars s best n start) where
-  -- no row of the set is left
-  pub choice_ends : Lawful (rows_of program) → (start < length program / 8 → (row_at program start).set ≢ s) → choice_of best ≡ firing (rows_of program) (config_of words scalars) s
-  choice_ends w h =
-      choice_none best x.none
-      ∙ sym (x.is ∙ ap first_of (fires_end (rows_of program) (config_of words scalars) s n (no_rule program w s n start x.bound x.positive h)))
-
-  pub not_chosen : {T : Type 0} → best.found ≡ true → T
-  not_chosen t = clash t x.none
+-- no row of the set is left
+pub choice_ends : (program words : List ℕ) (scalars : Scalars) (s n start : ℕ) → Choosing program words scalars s n start → Lawful (rows_of program) →
+    (start < length program / 8 → (row_at program start).set ≢ s) → [] ≡ firing (rows_of program) (config_of words scalars) s
+choice_ends program words scalars s n start x w h =
+    sym (x.is ∙ ap first_of (fires_end (rows_of program) (config_of words scalars) s n (no_rule program w s n start x.bound x.positive h)))
 
 -- one rule is tried, by the answers of its first row from number c on, and then those behind it
-pub record Trying (program words : List ℕ) (scalars : Scalars) (rule : Rule) (best : Choice) (start : ℕ) (r : Row) (f : Found) (once : Bool) (c : ℕ) : Type 0 where
-  pub none : best.found ≡ false
+pub record Trying (program words : List ℕ) (scalars : Scalars) (rule : Rule) (start : ℕ) (r : Row) (f : Found) (once : Bool) (c : ℕ) : Type 0 where
   pub at_first : once ≡ true → c ≡ 0
   pub is : firing (rows_of program) (config_of words scalars) rule.set
       ≡ first_of (bind (answers words scalars r f c) (follow program words scalars rule start) ++ fires (rows_of program) (config_of words scalars) rule.set (rule.number + 1))
 
 -- all that is left of the rule was tried: nothing fires, or its match
-module _ {program words : List ℕ} {scalars : Scalars} {rule : Rule} {best : Choice} {start : ℕ} {r : Row} {f : Found} {once : Bool} {c : ℕ} (x : Trying program words scalars rule best start r f once c)
+module _ {program words : List ℕ} {scalars : Scalars} {rule : Rule} {start : ℕ} {r : Row} {f : Found} {once : Bool} {c : ℕ} (x : Trying program words scalars rule start r f once c)
     (q : r ≡ row_at program start) (a : List Found) (e : a ≡ first_of (bind (answers words scalars (row_at program start) f c) (counted program words scalars rule (start + 1)))) where
   abbrev left_over : List Found
   left_over = bind (answers words scalars (row_at program start) f c) (counted program words scalars rule (start + 1))

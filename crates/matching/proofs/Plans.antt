@@ -8,13 +8,13 @@ use native.Mathlib.Numerals.{add-one}
 use native.Mathlib.Omega.{arith}
 use lib.Dec.{eqb, ltb}
 use lib.ListN.{length, take, drop, get_or, set, length-set, drop_of_length-le, take-append-drop, get_or-eq_default}
-use lib.Seq.{take-take, take-set-lt, drop-set-lt, take-suc, get_or-take, get_or-set_other, length-take-le}
+use lib.Seq.{take-take, take-set-lt, drop-set-lt, take-suc, get_or-take, get_or-set_other, length-take-le, ext_get_or}
 use borrow.Author.Tests.{eq-eqb, eqb-true, ne_eqb, lt-ltb, le-ltb, ltb-true, ltb-false}
 use Rattle.lists.specs.Lists.{In, Pairs, first, insert, rising_set, same, some}
 use Rattle.lists.specs.Tables.{tabulate, trimmed}
 use Rattle.lists.proofs.Lists.{test}
 use Rattle.lists.proofs.Tests.{and2, same_equal}
-use Rattle.lists.proofs.Tables.{tabulate_length, tabulate_from, tabulate_get}
+use Rattle.lists.proofs.Tables.{tabulate_length, tabulate_from, get_within}
 use Rattle.lists.proofs.Bind.{append_assoc}
 use Rattle.lists.proofs.Cuts.{drop_next}
 use Rattle.lists.proofs.RisingSet.{rising_set_rises}
@@ -258,36 +258,5 @@ other_justified P s n f q e = rw e (at (eqb q.set s) (eqb q.rule n))
     at false b = refl
 
 -- eight values that are the same one by one
-abbrev pub values_agree : List ℕ → List ℕ → Bool
-values_agree v w =
-    (eqb (get_or v 0 no_value) (get_or w 0 0) && (eqb (get_or v 1 no_value) (get_or w 1 0) && (eqb (get_or v 2 no_value) (get_or w 2 0) && eqb (get_or v 3 no_value) (get_or w 3 0))))
-    && (eqb (get_or v 4 no_value) (get_or w 4 0) && (eqb (get_or v 5 no_value) (get_or w 5 0) && (eqb (get_or v 6 no_value) (get_or w 6 0) && eqb (get_or v 7 no_value) (get_or w 7 0))))
-
-pub agreed_values : (v w : List ℕ) → length v ≡ 8 → length w ≡ 8 → values_agree v w ≡ true → v ≡ w
-agreed_values v w long short e =
-    let t0 = eqb (get_or v 0 no_value) (get_or w 0 0) in
-    let t1 = eqb (get_or v 1 no_value) (get_or w 1 0) in
-    let t2 = eqb (get_or v 2 no_value) (get_or w 2 0) in
-    let t3 = eqb (get_or v 3 no_value) (get_or w 3 0) in
-    let t4 = eqb (get_or v 4 no_value) (get_or w 4 0) in
-    let t5 = eqb (get_or v 5 no_value) (get_or w 5 0) in
-    let t6 = eqb (get_or v 6 no_value) (get_or w 6 0) in
-    let t7 = eqb (get_or v 7 no_value) (get_or w 7 0) in
-    let halves = (and-eq-true_iff (t0 && (t1 && (t2 && t3))) (t4 && (t5 && (t6 && t7)))).0 e in
-    let low = (and-eq-true_iff t0 (t1 && (t2 && t3))).0 halves.0 in
-    let low1 = (and-eq-true_iff t1 (t2 && t3)).0 low.1 in
-    let low2 = (and-eq-true_iff t2 t3).0 low1.1 in
-    let high = (and-eq-true_iff t4 (t5 && (t6 && t7))).0 halves.1 in
-    let high1 = (and-eq-true_iff t5 (t6 && t7)).0 high.1 in
-    let high2 = (and-eq-true_iff t6 t7).0 high1.1 in
-    let e0 = eqb-true (get_or v 0 no_value) (get_or w 0 0) low.0 in
-    let e1 = eqb-true (get_or v 1 no_value) (get_or w 1 0) low1.0 in
-    let e2 = eqb-true (get_or v 2 no_value) (get_or w 2 0) low2.0 in
-    let e3 = eqb-true (get_or v 3 no_value) (get_or w 3 0) low2.1 in
-    let e4 = eqb-true (get_or v 4 no_value) (get_or w 4 0) high.0 in
-    let e5 = eqb-true (get_or v 5 no_value) (get_or w 5 0) high1.0 in
-    let e6 = eqb-true (get_or v 6 no_value) (get_or w 6 0) high2.0 in
-    let e7 = eqb-true (get_or v 7 no_value) (get_or w 7 0) high2.1 in
-    let v-is = tabulate_get 8 v no_value long in
-    let w-is = tabulate_get 8 w 0 short in
-    cc
+pub agreed_values : (v w : List ℕ) → length v ≡ 8 → length w ≡ 8 → ((i : ℕ) → i < 8 → get_or v i no_value ≡ get_or w i 0) → v ≡ w
+agreed_values v w long short e = ext_get_or 0 v w (long ∙ sym short) (λ i h. get_within v i 0 no_value h ∙ e i (omega (arith, h)))

@@ -1,8 +1,8 @@
 -- The rows of a rule from a place on: what the search finds is the first that counts of the model's matches.
+use Rattle.std.specs.Prelude.{Some, None}
 use mathlib.Core.Path.{◌≡◌, sym, ap, ◌∙◌, subst}
 use mathlib.Core.Bool.{Bool, true, false}
 use mathlib.Core.List.{List, [], ◌∷◌}
-use mathlib.Core.Logic.{◌≢◌}
 use Prim.Native.Nat.{ℕ, ◌+◌, ◌≤◌, ◌<◌}
 use native.Mathlib.Omega.{arith}
 use lib.Dec.{eqb}
@@ -15,9 +15,10 @@ use Rattle.program.specs.Rows.{row_at, rows_of}
 use Rattle.program.proofs.Words.{rows_next, rows_none}
 use Rattle.state.specs.declared.Scalars.{Scalars}
 use Rattle.state.specs.View.{config_of}
-use Rattle.queries.specs.View.{found_in}
-use Rattle.queries.specs.Answers.{answers, given_ids, onward, Next}
-use Rattle.queries.proofs.Answers.{answers_all, onward_none, onward_one}
+use Rattle.queries.specs.View.{found_in, Kept}
+use Rattle.queries.specs.Answers.{answers, given_ids, Next}
+use Rattle.queries.proofs.Laws.{kept_fewer}
+use Rattle.queries.proofs.Answers.{answers_all}
 use Rattle.matching.specs.declared.Rule.{Rule}
 use Rattle.matching.specs.Rules.{rows_between, reasons_in, counted}
 
@@ -50,18 +51,17 @@ module _ (program words : List ℕ) (s : Scalars) (rule : Rule) (k : ℕ) (f : F
       ∙ keep_bind p (matches c rest) (after_row c r f)
       ∙ ap (λ (l : List Found). bind l (λ (x : Found). keep p (matches c rest x))) (answers_all words s r f)
 
+-- the first ids are kept, once more of them were matched and given up
+pub kept_on : (n g : ℕ) (l m k o : List ℕ) → Kept n l m → Kept n m k → Kept (n + g) k o → Kept n l o
+kept_on n g l m k o a b c = kept_fewer n (n + g) k o (omega arith) c ∙ b ∙ a
+
 -- the next answer of a row, asked with other ids in place behind those that are matched: there is none, or it is the first
-module _ (words : List ℕ) (s : Scalars) (r : Row) (v m b values matched : List ℕ) (n c w k : ℕ) (same : take n b ≡ take n m)
-    (q : Next (answers words s r (found_in v b n)) c w (found_in values matched (n + given_ids r)) k) where
-  given : answers words s r (found_in v m n) c ≡ onward (answers words s r (found_in v m n)) (found_in values matched (n + given_ids r)) k
-  given =
-      subst (λ (l : List ℕ). answers words s r (record { values = v; matched = l }) c ≡ onward (answers words s r (record { values = v; matched = l })) (found_in values matched (n + given_ids r)) k) same q.is
+module _ (words : List ℕ) (s : Scalars) (r : Row) (v m b values matched : List ℕ) (n c w : ℕ) (same : take n b ≡ take n m) where
+  pub given_none : Next (answers words s r (found_in v b n)) c w (found_in values matched (n + given_ids r)) None → answers words s r (found_in v m n) c ≡ []
+  given_none q = subst (λ (l : List ℕ). answers words s r (record { values = v; matched = l }) c ≡ []) same q.is
 
-  pub given_none : k ≡ 0 → answers words s r (found_in v m n) c ≡ []
-  given_none e = given ∙ onward_none (answers words s r (found_in v m n)) _ _ e
-
-  pub given_one : k ≢ 0 → (g : ℕ) → g ≡ n + given_ids r →
+  pub given_one : (k : ℕ) → Next (answers words s r (found_in v b n)) c w (found_in values matched (n + given_ids r)) (Some k) → (g : ℕ) → g ≡ n + given_ids r →
       ◌≡◌ {A = List Found} (answers words s r (found_in v m n) c) (found_in values matched g ∷ answers words s r (found_in v m n) k)
-  given_one z g e =
-      given ∙ onward_one (answers words s r (found_in v m n)) _ _ z
+  given_one k q g e =
+      subst (λ (l : List ℕ). answers words s r (record { values = v; matched = l }) c ≡ found_in values matched (n + given_ids r) ∷ answers words s r (record { values = v; matched = l }) k) same q.is
       ∙ ap {B = List Found} (λ (g : ℕ). found_in values matched g ∷ answers words s r (found_in v m n) k) (sym e)

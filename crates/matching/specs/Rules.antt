@@ -1,6 +1,6 @@
 -- Where a rule's rows stand, which of its matches count, and what the choice says in the model's terms.
-use Rattle.std.specs.Prelude.{◌≡◌, Bool, ◌&&◌, List, [], ◌∷◌, ℕ, ◌-◌, ◌/◌, ◌≤◌, eqb, length, take, get_or, if◌then◌else◌}
-use Rattle.lists.specs.Lists.{keep, when, first_of}
+use Rattle.std.specs.Prelude.{◌≡◌, Bool, ◌&&◌, List, [], ◌∷◌, ℕ, ◌-◌, ◌/◌, ◌≤◌, eqb, length, take, get_or, Option, Some, None, IfSome}
+use Rattle.lists.specs.Lists.{keep, first_of}
 use Rattle.model.specs.declared.Row.{Row}
 use Rattle.model.specs.Program.{is_object, body}
 use Rattle.model.specs.Matching.{Found, matches, counts, Firing}
@@ -32,14 +32,15 @@ unfoldable pub counted : List ℕ → List ℕ → Scalars → Rule → ℕ → 
 counted program words s rule k f =
     keep (counts (rows_of program) (config_of words s) rule.set rule.number) (matches (config_of words s) (rows_between program k rule.body) f)
 
--- a match in place, with n one more than the ids that it matched; 0 is none
-abbrev pub match_in : List ℕ → List ℕ → ℕ → List Found
-match_in values matched n = if eqb n 0 then [] else found_in values matched (n - 1) ∷ []
+-- a match in place, with n the ids that it matched, if there is one
+abbrev pub match_in : List ℕ → List ℕ → Option ℕ → List Found
+match_in values matched None = []
+match_in values matched (Some n) = found_in values matched n ∷ []
 
--- the first of these matches; 6: the search gave up
-pub record Searched (l : List Found) (values matched : List ℕ) (n : ℕ) : Type 0 where
-  pub is : n ≤ 5 → match_in values matched n ≡ first_of l
-  pub few : n ≤ 6
+-- the first of these matches, if there is one
+pub record Searched (l : List Found) (values matched : List ℕ) (n : Option ℕ) : Type 0 where
+  pub is : match_in values matched n ≡ first_of l
+  pub few : IfSome n (λ k. k ≤ 4)
 
 -- ids in a list, and zeros behind them
 abbrev pub ids_of : Ids → List ℕ
@@ -53,9 +54,9 @@ abbrev pub agrees_in : List ℕ → List ℕ → Bool
 agrees_in js ids =
     (eqb (get_or js 0 0) (get_or ids 0 0) && eqb (get_or js 1 0) (get_or ids 1 0)) && (eqb (get_or js 2 0) (get_or ids 2 0) && eqb (get_or js 3 0) (get_or ids 3 0))
 
--- the rule that fires and its match, if there is one
-abbrev pub choice_of : Choice → List Firing
-choice_of x = when x.found (record { rule = x.rule.number; match = found_of x.bindings })
+-- the rule that fires and its match
+abbrev pub choice_of : Choice → Firing
+choice_of x = record { rule = x.rule.number; match = found_of x.bindings }
 
 -- where the rule of a choice stands, and that its ids are four at most
 pub record Chosen (program : List ℕ) (set : ℕ) (x : Choice) : Type 0 where

@@ -1,10 +1,9 @@
 -- What a failure hangs on. Whether the rows from k on have a match that counts is decided by a few variables, and perhaps by the ids that the
 -- reasons matched. A search that fails answers with those, as a set; whatever else was found, the same rows fail again, so every way back
 -- that changes none of them need not be tried.
-use Rattle.std.specs.Prelude.{◌≡◌, true, false, ◌⊎◌, ◌≢◌, List, [], ◌∷◌, ℕ, ◌+◌, ◌-◌, ◌≤◌, ◌<◌, length}
-use Rattle.lists.specs.Lists.{first_of}
+use Rattle.std.specs.Prelude.{◌≡◌, true, false, ◌⊎◌, ◌≢◌, List, [], ℕ, ◌-◌, ◌≤◌, ◌<◌, length, Some, Result, MatchResult}
 use Rattle.table.specs.Rows.{row}
-use Rattle.nogoods.specs.Nogoods.{has, no_set, width, places, size, rest_in, set_in, values_in, count_in, ids_in}
+use Rattle.nogoods.specs.Nogoods.{has, all_sets, width, places, size, rest_in, set_in, values_in, count_in, ids_in}
 use Rattle.model.specs.declared.Row.{Row}
 use Rattle.model.specs.Configuration.{no_value, place, value_of}
 use Rattle.model.specs.Matching.{Found, negation}
@@ -13,7 +12,7 @@ use Rattle.state.specs.declared.Scalars.{Scalars}
 use Rattle.queries.specs.View.{found_in}
 use Rattle.queries.specs.Answers.{settled}
 use Rattle.matching.specs.declared.Rule.{Rule}
-use Rattle.matching.specs.Rules.{rows_between, counted}
+use Rattle.matching.specs.Rules.{rows_between, counted, Searched}
 
 -- operand x is no variable, or one of the set
 abbrev pub Member : ℕ → ℕ → Type 0
@@ -27,19 +26,19 @@ Inside a b = (j : ℕ) → has a j ≡ true → has b j ≡ true
 
 -- a set that holds both
 pub record Joined (a b set : ℕ) : Type 0 where
-  pub small : set < no_set
+  pub small : set < all_sets
   pub left : Inside a set
   pub right : Inside b set
 
 -- the operands of a row, of a body with the ids
 pub record OfRow (r : Row) (set : ℕ) : Type 0 where
-  pub small : set < no_set
+  pub small : set < all_sets
   pub at_i : Member set r.i
   pub at_a : Member set r.a
   pub at_b : Member set r.b
 
 pub record OfBody (program : List ℕ) (from to set : ℕ) : Type 0 where
-  pub small : set < no_set
+  pub small : set < all_sets
   pub ids : HasIds set
   pub rows : Looks (Member set) (rows_between program from to)
 
@@ -53,7 +52,7 @@ Same set f g = Alike (Member set) (λ a b. HasIds set → b ≡ a) f g
 
 -- no match counts, and that hangs on the set alone
 pub record Barren (program words : List ℕ) (s : Scalars) (rule : Rule) (k : ℕ) (f : Found) (set : ℕ) : Type 0 where
-  pub small : set < no_set
+  pub small : set < all_sets
   pub none : (g : Found) → Same set f g → counted program words s rule k g ≡ []
 
 -- the row changes nothing of the set: it is a negation, or each variable of it that the set has has a value, and it gives no id that the set has
@@ -68,7 +67,7 @@ Apart set r v = (negation r ≡ true) ⊎ Quiet set r v
 
 -- what a row changes of the eight values and the ids; a negation nothing
 pub record Changed (r : Row) (v : List ℕ) (set : ℕ) : Type 0 where
-  pub small : set < no_set
+  pub small : set < all_sets
   pub at_i : negation r ≡ false → 1 ≤ r.i → r.i ≤ 8 → value_of v r.i ≡ no_value → has set (place r.i) ≡ true
   pub at_a : negation r ≡ false → 1 ≤ r.a → r.a ≤ 8 → value_of v r.a ≡ no_value → has set (place r.a) ≡ true
   pub at_b : negation r ≡ false → 1 ≤ r.b → r.b ≤ 8 → value_of v r.b ≡ no_value → has set (place r.b) ≡ true
@@ -90,14 +89,8 @@ pub record Remembered (program words : List ℕ) (s : Scalars) (rule : Rule) (ta
   pub long : length table ≡ size
   pub holds : (i : ℕ) → i < places → True program words s rule (row width table i)
 
--- the answer of a long search: `no_set` and the ids that are matched, or the set on which its failure hangs
-pub record LongSearched (program words : List ℕ) (s : Scalars) (rule : Rule) (k : ℕ) (f : Found) (values matched : List ℕ) (m : ℕ) : Type 0 where
-  pub high : m ≤ no_set + 4
-  pub finds : no_set ≤ m → ◌≡◌ {A = List Found} (found_in values matched (m - no_set) ∷ []) (first_of (counted program words s rule k f))
-  pub fails : m < no_set → Barren program words s rule k f m
-
--- the first of some matches, or none: `no_set` and the ids that are matched
-pub record RestSearched (l : List Found) (values matched : List ℕ) (m : ℕ) : Type 0 where
-  pub high : m ≤ no_set + 4
-  pub finds : no_set ≤ m → ◌≡◌ {A = List Found} (found_in values matched (m - no_set) ∷ []) (first_of l)
-  pub fails : m < no_set → first_of l ≡ []
+-- the answer of a long search: the ids that its match matched, or the set on which its failure hangs
+abbrev pub LongSearched : List ℕ → List ℕ → Scalars → Rule → ℕ → Found → List ℕ → List ℕ → Result ℕ ℕ → Type 0
+LongSearched program words s rule k f values matched r = MatchResult r
+    (λ n. Searched (counted program words s rule k f) values matched (Some n))
+    (λ set. Barren program words s rule k f set)

@@ -3,7 +3,7 @@
 // since the same values come again: some variable has a value that none of those rows looks at, or many candidates of the row before give the
 // same. Above that it lists later rows, four bits each.
 // The first number, where no row is to go, is a purse: how many questions to later rows may still turn out useless.
-ghost use Rattle.std.specs.Prelude.{◌≡◌, ◌≢◌, ◌/◌, ◌<◌, ◌≤◌, length};
+ghost use Rattle.std.specs.Prelude.{◌/◌, ◌<◌, ◌≤◌, length, IfSome};
 ghost use Rattle.queries.specs.View.{Limits};
 
 use crate::sets;
@@ -25,45 +25,39 @@ const PURSE: u32 = 250;
 // The bits of a hint that list later rows.
 const ROOM: u32 = 20;
 
+// In the place of a row's set, once the row is in a list: no set has it.
+const LISTED: u32 = 512;
+
 // Later rows of a hint, and how many bits they take; and the sets of the rows that are in no list yet.
 #[derive(Clone, Copy)]
 struct Later {
     list: u32,
     taken: u32,
-    sets: [u32; 16],
+    sets: [u32; ROWS],
 }
 
-// The hint where so many rows are to go; 0: nothing is asked. Later rows are asked as long as the purse lasts.
-pub fn hint_at(hints: &[u32], rest: usize) -> u32
-    ensures { result ≢ 0 → rest < 16 }
+// The hint where so many rows are to go, if there is anything to ask. Later rows are asked as long as the purse lasts.
+pub fn hint_at(hints: &[u32], rest: usize) -> Option<u32>
+    ensures { IfSome result (λ _. rest < 16) }
 {
     if ROWS <= rest {
-        return 0;
+        return None;
     }
-    if hints.len() <= rest {
-        return 0;
-    }
-    let hint = hints[rest];
-    if hints[0] == 0 {
-        return hint % LIST;
-    }
-    hint
+    let purse = *hints.first()?;
+    let hint = *hints.get(rest)?;
+    let asked = if purse == 0 { hint % LIST } else { hint };
+    (asked != 0).then_some(asked)
 }
 
 // A question that spared the rows from there on gives one back to the purse, another takes one from it.
 pub fn charge(hints: &mut [u32], spared: bool) {
-    if hints.len() == 0 {
+    let Some(purse) = hints.first_mut() else {
         return;
-    }
-    let left = hints[0];
-    if spared {
-        if left < PURSE {
-            hints[0] = left + 1;
-        }
-        return;
-    }
-    if 0 < left {
-        hints[0] = left - 1;
+    };
+    if !spared {
+        *purse = purse.saturating_sub(1);
+    } else if *purse < PURSE {
+        *purse += 1;
     }
 }
 
@@ -73,27 +67,23 @@ fn is_inside(a: u32, b: u32) -> bool {
 }
 
 // What each row looks at, by how many are to go.
-fn row_sets(program: &[u32], first: usize, body: usize) -> [u32; 16]
+fn row_sets(program: &[u32], first: usize, body: usize) -> [u32; ROWS]
     requires { (first < 16) × (first ≤ body) × (body ≤ length program.now / 8) }
 {
-    let mut own: [u32; 16] = [0; 16];
-    let mut rest: usize = 1;
-    while rest <= first {
+    let mut own: [u32; ROWS] = [0; ROWS];
+    for rest in 1..first + 1 {
         own[rest] = sets::operands(program::row_at(program, body - rest));
-        rest += 1;
     }
     own
 }
 
 // What the last rows look at, so many of them.
-fn looked(own: [u32; 16], rest: usize) -> u32
+fn looked(own: [u32; ROWS], rest: usize) -> u32
     requires { rest < 16 }
 {
     let mut set: u32 = 0;
-    let mut j: usize = 1;
-    while j <= rest {
-        set = set | own[j];
-        j += 1;
+    for own in &own[1..rest + 1] {
+        set = set | *own;
     }
     set
 }
@@ -105,16 +95,14 @@ fn gather(later: Later, near: u32, rest: usize) -> Later
     let mut list = later.list;
     let mut taken = later.taken;
     let mut sets = later.sets;
-    let mut j: usize = 1;
-    while j < rest {
+    for j in 1..rest {
         if taken < ROOM {
             if is_inside(sets[j], near) {
-                sets[j] = nogoods::NONE;
+                sets[j] = LISTED;
                 list = list | ((j as u32) << taken);
                 taken += 4;
             }
         }
-        j += 1;
     }
     Later { list, taken, sets }
 }
@@ -124,21 +112,19 @@ fn later_rows(
     later: Later,
     own: u32,
     last: u32,
-    bounds: [u32; 16],
+    bounds: [u32; ROWS],
     first: usize,
     rest: usize,
 ) -> Later
     requires { (first < 16) × (1 ≤ rest) × (rest ≤ first) }
 {
     let mut found = later;
-    let mut t = first;
-    while rest <= t {
+    for t in (rest..first + 1).rev() {
         let near = last | bounds[t];
         if is_inside(own, near) {
             return found;
         }
         found = gather(found, near, rest);
-        t -= 1;
     }
     found
 }
@@ -167,12 +153,10 @@ fn repeats(words: &[u32], s: Scalars, r: Row) -> bool
     if (r.op != 1) | (r.i != 0) {
         return false;
     }
-    let n = s.atoms as usize;
     let mut seen: [u32; 256] = [0; 256];
     let mut count: usize = 0;
     let mut again: usize = 0;
-    let mut c: usize = 0;
-    while c < n {
+    for c in 0..s.atoms as usize {
         let x = state::atom_at(words, c);
         if x.p == r.p {
             let k = key(r, x.a, x.b);
@@ -183,7 +167,6 @@ fn repeats(words: &[u32], s: Scalars, r: Row) -> bool
             seen[at] = k + 1;
             count += 1;
         }
-        c += 1;
     }
     count <= again * 2
 }
@@ -195,16 +178,16 @@ pub fn of_rule<'a>(
     s: Scalars,
     start: usize,
     body: usize,
-) -> [u32; 16]
+) -> [u32; ROWS]
     requires { (start ≤ body) × (body ≤ length program.now / 8) × Limits words.now s }
 {
-    let mut hints: [u32; 16] = [0; 16];
+    let mut hints: [u32; ROWS] = [0; ROWS];
     let first = body - start;
     if ROWS <= first {
         return hints;
     }
     let own = row_sets(program, first, body);
-    let mut bounds: [u32; 16] = [0; 16];
+    let mut bounds: [u32; ROWS] = [0; ROWS];
     let mut later = Later {
         list: 0,
         taken: 0,
@@ -213,8 +196,7 @@ pub fn of_rule<'a>(
     let mut bound: u32 = 0;
     let mut last: u32 = 0;
     let mut again = false;
-    let mut rest = first;
-    while 0 < rest {
+    for rest in (1..first + 1).rev() {
         bounds[rest] = bound;
         let r = program::row_at(program, body - rest);
         // a row that knows its id costs less than any question
@@ -234,7 +216,6 @@ pub fn of_rule<'a>(
             bound = bound | own[rest];
         }
         again = repeats(words, s, r);
-        rest -= 1;
     }
     hints[0] = PURSE;
     hints

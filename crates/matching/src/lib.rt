@@ -4,18 +4,18 @@
 pub mod hints;
 pub mod sets;
 
-ghost use Rattle.std.specs.Prelude.{◌≡◌, true, ◌&&◌, ◌⊎◌, ◌≢◌, ◌+◌, ◌-◌, ◌/◌, ◌<◌, ◌≤◌, eqb, length, take};
+ghost use Rattle.std.specs.Prelude.{◌≡◌, true, ◌&&◌, ◌⊎◌, ◌+◌, ◌-◌, ◌/◌, ◌<◌, ◌≤◌, eqb, length, take, option_to_list, option_map, None, Ok, IfSome, IfOk, IfErr};
 ghost use Rattle.lists.specs.Lists.{Pairs, insert as inserted, rising_set as rising-set-of, same, bind};
 ghost use Rattle.model.specs.Matching.{nothing_found, body_value, body_values, justifications_of, equal_plan, counts as counts_of, firing};
 ghost use Rattle.program.specs.Rows.{row_at, rows_of};
 ghost use Rattle.program_laws.specs.Lawful.{Lawful};
 ghost use Rattle.state.specs.View.{plan_at, config_of};
-ghost use Rattle.nogoods.specs.Nogoods.{no_set, size, nogood, Replaced};
+ghost use Rattle.nogoods.specs.Nogoods.{size, nogood, Replaced};
 ghost use Rattle.queries.specs.View.{found_in, found_of, Limits, Sized, Kept};
 ghost use Rattle.queries.specs.Answers.{answers};
 ghost use Rattle.filters.specs.Filters.{Marked};
 ghost use Rattle.matching.specs.Rules.{rows_between, reasons_in, Located, counted, Searched, ids_of, Padded, agrees_in, choice_of, Chosen};
-ghost use Rattle.matching.specs.Sets.{OfBody, Barren, Remembered, LongSearched, RestSearched};
+ghost use Rattle.matching.specs.Sets.{OfBody, Barren, Remembered, LongSearched};
 
 use model::Row;
 use queries::Bindings;
@@ -47,8 +47,11 @@ pub struct Ids {
 pub struct Choice {
     pub bindings: Bindings,
     pub rule: Rule,
-    pub found: bool,
 }
+
+// A search with fuel came to no end.
+#[derive(Clone, Copy)]
+pub struct GaveUp;
 
 // A number into rising ids, once: each greater one gives way to the one before it.
 fn insert(n: u32, l: Ids) -> Ids
@@ -60,8 +63,7 @@ fn insert(n: u32, l: Ids) -> Ids
     let mut ids = l.ids;
     let count = l.count;
     let mut carried = n;
-    let mut j: usize = 0;
-    while j < count {
+    for j in 0..count {
         let x = ids[j];
         if carried == x {
             return Ids { ids, count };
@@ -69,10 +71,7 @@ fn insert(n: u32, l: Ids) -> Ids
         if carried < x {
             ids[j] = carried;
             carried = x;
-            j += 1;
-            continue;
         }
-        j += 1;
     }
     ids[count] = carried;
     Ids {
@@ -92,9 +91,7 @@ pub fn rising_set(matched: [u32; 4], count: usize) -> Ids
         ids: [0; 4],
         count: 0,
     };
-    let mut j = count;
-    while 0 < j {
-        j -= 1;
+    for j in (0..count).rev() {
         l = insert(matched[j], l);
     }
     l
@@ -111,12 +108,10 @@ fn same_justifications(words: &[u32], k: usize, l: Ids) -> bool
     if n != count {
         return false;
     }
-    let mut j: usize = 0;
-    while j < count {
+    for j in 0..count {
         if state::plan_justification(words, k, j) != ids[j] {
             return false;
         }
-        j += 1;
     }
     true
 }
@@ -162,13 +157,11 @@ fn same_values<'a>(
     ensures { result ≡ same (body_values (rows_between program.now from to) (plan_at words.now k).values)
         (body_values (rows_between program.now from to) values) }
 {
-    let mut j = from;
-    while j < to {
+    for j in from..to {
         let r = program::row_at(program, j);
         if !same_row(words, k, r, values) {
             return false;
         }
-        j += 1;
     }
     true
 }
@@ -178,15 +171,12 @@ fn values_agree(words: &[u32], k: usize, values: [u32; 8]) -> bool
     requires { (length words.now ≡ 2432) × (k < 64) }
     ensures { result ≡ true → (plan_at words.now k).values ≡ values }
 {
-    let v0 = state::plan_value(words, k, 0) == values[0];
-    let v1 = state::plan_value(words, k, 1) == values[1];
-    let v2 = state::plan_value(words, k, 2) == values[2];
-    let v3 = state::plan_value(words, k, 3) == values[3];
-    let v4 = state::plan_value(words, k, 4) == values[4];
-    let v5 = state::plan_value(words, k, 5) == values[5];
-    let v6 = state::plan_value(words, k, 6) == values[6];
-    let v7 = state::plan_value(words, k, 7) == values[7];
-    (v0 & (v1 & (v2 & v3))) & (v4 & (v5 & (v6 & v7)))
+    for i in 0..8 {
+        if state::plan_value(words, k, i) != values[i] {
+            return false;
+        }
+    }
+    true
 }
 
 // "the same set and rule, the same set of justifications .. and the same values of the variables in its body": plan k.
@@ -241,25 +231,21 @@ fn counts<'a>(program: &'a [u32], words: &'a [u32], s: Scalars, rule: Rule, f: B
     let matched = f.matched;
     let l = rising_set(matched, f.count);
     let ids = l.ids;
-    let n = s.plans as usize;
-    let mut k: usize = 0;
-    while k < n {
+    for k in 0..s.plans as usize {
         // most plans are raised from other atoms
         if !words_agree(words, k, ids) {
-            k += 1;
             continue;
         }
         if equal_plan(program, words, rule, k, l, f) {
             return false;
         }
-        k += 1;
     }
     true
 }
 
-// The first match of the rows from k up to the rule's body that counts, in place: `count` ids are matched before. One more than are
-// matched then; 0 where there is no match, and all is as it was; 6 where it gave up, since `fuel` rows were tried. "Rows are tried left to
-// right, .. candidates in rising id": the search calls itself on the rows that remain. A row that leaves everything as it was is tried once.
+// The first match of the rows from k up to the rule's body that counts, in place: `count` ids are matched before, and so many as it answers
+// then. None where there is no match, and all is as it was. It gives up where `fuel` rows were tried. "Rows are tried left to right, ..
+// candidates in rising id": the search calls itself on the rows that remain. A row that leaves everything as it was is tried once.
 pub fn search<'a>(
     program: &'a [u32],
     words: &'a [u32],
@@ -269,19 +255,18 @@ pub fn search<'a>(
     count: usize,
     values: &mut [u32; 8],
     matched: &mut [u32; 4],
-    fuel: &mut [u32; 1],
-) -> usize
-    requires { Located program.now rule × Limits words.now s × (count + reasons_in program.now k rule.body ≤ 4) × Sized values.old matched.old × (length fuel.old ≡ 1) }
-    ensures sized { Sized values.new matched.new × (length fuel.new ≡ 1) }
-    ensures is { Searched (counted program.now words.now s rule k (found_in values.old matched.old count)) values.new matched.new result }
-    ensures back { result ≡ 0 → values.new ≡ values.old }
+    fuel: &mut u32,
+) -> Result<Option<usize>, GaveUp>
+    requires { Located program.now rule × Limits words.now s × (count + reasons_in program.now k rule.body ≤ 4) × Sized values.old matched.old }
+    ensures sized { Sized values.new matched.new }
+    ensures is { IfOk result (Searched (counted program.now words.now s rule k (found_in values.old matched.old count)) values.new matched.new) }
+    ensures back { result ≡ Ok None → values.new ≡ values.old }
     ensures kept { Kept count matched.old matched.new }
 {
-    let left = fuel[0];
-    if left == 0 {
-        return 6;
+    if *fuel == 0 {
+        return Err(GaveUp);
     }
-    fuel[0] = left - 1;
+    *fuel -= 1;
     let before = *values;
     if rule.body <= k {
         let ids = *matched;
@@ -291,31 +276,29 @@ pub fn search<'a>(
             count,
         };
         if counts(program, words, s, rule, f) {
-            return count + 1;
+            return Ok(Some(count));
         }
-        return 0;
+        return Ok(None);
     }
     let r = program::row_at(program, k);
     let mut c: usize = 0;
-    loop {
-        c = queries::next_answer(words, s, r, c, before, count, values, matched);
-        if c == 0 {
-            return 0;
-        }
+    while let Some(next) = queries::next_answer(words, s, r, c, before, count, values, matched) {
         let n = count + queries::given_ids(r);
-        let m = search(program, words, s, rule, k + 1, n, values, matched, fuel);
-        if m != 0 {
-            return m;
+        let m = search(program, words, s, rule, k + 1, n, values, matched, fuel)?;
+        if let Some(found) = m {
+            return Ok(Some(found));
         }
         *values = before;
         if queries::closes(r, before) {
-            return 0;
+            return Ok(None);
         }
+        c = next;
     }
+    Ok(None)
 }
 
-// Whether a later row settles it: the set on which it hangs that some row of the list has no answer, or `NONE`. The list holds rows by how many
-// are to go from them on, four bits each. A row all of whose operands have values answers now as it will when its turn comes, since what has a
+// Whether a later row settles it: the set on which it hangs that some row of the list has no answer. The list holds rows by how many are to go
+// from them on, four bits each. A row all of whose operands have values answers now as it will when its turn comes, since what has a
 // value keeps it: so where it has no answer, none of the rows before it need be tried.
 fn ask_later<'a>(
     program: &'a [u32],
@@ -328,10 +311,10 @@ fn ask_later<'a>(
     values: &mut [u32; 8],
     matched: &mut [u32; 4],
     filter: &'a [u8],
-) -> u32
+) -> Option<u32>
     requires { Located program.now rule × Limits words.now s × (k < rule.body) × (count ≤ 4) × Sized values.old matched.old × Marked words.now s.atoms filter.now }
     ensures sized { Sized values.new matched.new }
-    ensures is { result ≢ no_set → Barren program.now words.now s rule k (found_in values.old matched.old count) result }
+    ensures is { IfSome result (Barren program.now words.now s rule k (found_in values.old matched.old count)) }
     ensures back { values.new ≡ values.old }
     ensures kept { Kept count matched.old matched.new }
 {
@@ -341,24 +324,27 @@ fn ask_later<'a>(
     while left != 0 {
         let j = (left % 16) as usize;
         if body - k <= j {
-            return nogoods::NONE;
+            return None;
         }
         if j == 0 {
-            return nogoods::NONE;
+            return None;
         }
         let r = program::row_at(program, body - j);
         if sets::is_settled(r, &before) {
-            if filters::next_answer(words, s, r, 0, before, count, values, matched, filter) == 0 {
-                return sets::operands(r);
+            if filters::next_answer(
+                words, s, r, 0, before, count, values, matched, filter,
+            ).is_none()
+            {
+                return Some(sets::operands(r));
             }
             *values = before;
         }
         left = left / 16;
     }
-    nogoods::NONE
+    None
 }
 
-// What is known before the rows from k on are tried: the set on which their failure hangs, or `NONE`. A nogood says it, or a later row.
+// What is known before the rows from k on are tried: the set on which their failure hangs. A nogood says it, or a later row.
 fn glance<'a>(
     program: &'a [u32],
     words: &'a [u32],
@@ -372,23 +358,22 @@ fn glance<'a>(
     hints: &mut [u32],
     known: &'a [u32],
     filter: &'a [u8],
-) -> u32
+) -> Option<u32>
     requires { Located program.now rule × Limits words.now s × (k < rule.body) × (count ≤ 4) × Sized values.old matched.old × Remembered program.now words.now s rule known.now × Marked words.now s.atoms filter.now }
     ensures sized { Sized values.new matched.new }
-    ensures is { result ≢ no_set → Barren program.now words.now s rule k (found_in values.old matched.old count) result }
+    ensures is { IfSome result (Barren program.now words.now s rule k (found_in values.old matched.old count)) }
     ensures back { values.new ≡ values.old }
     ensures kept { Kept count matched.old matched.new }
 {
     if hint / hints::NOGOOD % 2 == 1 {
         let before = *values;
         let ids = *matched;
-        let set = nogoods::recall(known, rule.body - k, hint, before, count, ids);
-        if set != nogoods::NONE {
-            return set;
+        if let Some(set) = nogoods::recall(known, rule.body - k, hint, before, count, ids) {
+            return Some(set);
         }
     }
     if hint < hints::LIST {
-        return nogoods::NONE;
+        return None;
     }
     let set = ask_later(
         program,
@@ -402,33 +387,36 @@ fn glance<'a>(
         matched,
         filter,
     );
-    hints::charge(hints, set != nogoods::NONE);
+    hints::charge(hints, set.is_some());
     set
 }
 
 // The set on which a failure hangs, noted where the hint says that it may be met again.
 fn learn(
     known: &mut [u32],
-    hint: u32,
+    hint: Option<u32>,
     rest: usize,
     set: u32,
     values: [u32; 8],
     count: usize,
     ids: [u32; 4],
 ) -> u32
-    requires { (length known.old ≡ size) × (hint ≢ 0 → rest < 16) × (count ≤ 4) }
+    requires { (length known.old ≡ size) × IfSome hint (λ _. rest < 16) × (count ≤ 4) }
     ensures is { result ≡ set }
     ensures noted { (known.new ≡ known.old) ⊎ Replaced known.old known.new (nogood rest set values count ids) }
 {
+    let Some(hint) = hint else {
+        return set;
+    };
     if hint / hints::NOGOOD % 2 == 1 {
         nogoods::note(known, rest, hint, set, values, count, ids);
     }
     set
 }
 
-// The first match that counts where a search is long, to its end: `NONE` and the ids that are matched then, or the set on which its failure
-// hangs, and all is as it was. `body` is what it hangs on whether a match counts; `known` are nogoods of the same rule, `filter` is that of the
-// atoms. A row that changes nothing of what a failure hangs on is left at once: its other answers would fail alike.
+// The first match that counts where a search is long, to its end: the ids that are matched then, or the set on which its failure hangs, and all
+// is as it was. `body` is what it hangs on whether a match counts; `known` are nogoods of the same rule, `filter` is that of the atoms. A row
+// that changes nothing of what a failure hangs on is left at once: its other answers would fail alike.
 pub fn search_long<'a>(
     program: &'a [u32],
     words: &'a [u32],
@@ -442,11 +430,11 @@ pub fn search_long<'a>(
     hints: &mut [u32],
     known: &mut [u32],
     filter: &'a [u8],
-) -> u32
+) -> Result<usize, u32>
     requires { Located program.now rule × Limits words.now s × (count + reasons_in program.now k rule.body ≤ 4) × Sized values.old matched.old × OfBody program.now rule.body rule.end body × Remembered program.now words.now s rule known.old × Marked words.now s.atoms filter.now }
     ensures sized { Sized values.new matched.new }
     ensures is { LongSearched program.now words.now s rule k (found_in values.old matched.old count) values.new matched.new result }
-    ensures back { result < no_set → values.new ≡ values.old }
+    ensures back { IfErr result (λ _. values.new ≡ values.old) }
     ensures kept { Kept count matched.old matched.new }
     ensures learnt { Remembered program.now words.now s rule known.new }
 {
@@ -459,37 +447,30 @@ pub fn search_long<'a>(
             count,
         };
         if counts(program, words, s, rule, f) {
-            return nogoods::NONE + count as u32;
+            return Ok(count);
         }
-        return body;
+        return Err(body);
     }
     let rest = rule.body - k;
     let hint = hints::hint_at(hints, rest);
-    if hint != 0 {
-        let set = glance(
+    if let Some(hint) = hint {
+        if let Some(set) = glance(
             program, words, s, rule, k, hint, count, values, matched, hints, known, filter,
-        );
-        if set != nogoods::NONE {
-            return set;
+        ) {
+            return Err(set);
         }
     }
     let r = program::row_at(program, k);
     let mut blame = sets::operands(r);
     if filters::is_barred(filter, r, &before) {
         let ids = *matched;
-        return learn(known, hint, rest, blame, before, count, ids);
+        return Err(learn(known, hint, rest, blame, before, count, ids));
     }
-    // not asked yet
-    let mut gives = nogoods::NONE;
+    let mut gives: Option<u32> = None;
     let mut c: usize = 0;
-    loop {
-        c = queries::next_answer(words, s, r, c, before, count, values, matched);
-        if c == 0 {
-            let ids = *matched;
-            return learn(known, hint, rest, blame, before, count, ids);
-        }
+    while let Some(next) = queries::next_answer(words, s, r, c, before, count, values, matched) {
         let n = count + queries::given_ids(r);
-        let m = search_long(
+        let m = match search_long(
             program,
             words,
             s,
@@ -502,22 +483,26 @@ pub fn search_long<'a>(
             hints,
             known,
             filter,
-        );
-        if nogoods::NONE <= m {
-            return m;
-        }
+        ) {
+            Ok(found) => return Ok(found),
+            Err(set) => set,
+        };
         *values = before;
-        gives = sets::asked(gives, r, &before);
-        if sets::are_apart(m, gives) {
+        let given = sets::asked(gives, r, &before);
+        gives = Some(given);
+        if sets::are_apart(m, given) {
             let ids = *matched;
-            return learn(known, hint, rest, m, before, count, ids);
+            return Err(learn(known, hint, rest, m, before, count, ids));
         }
         blame = sets::union(blame, m);
+        c = next;
     }
+    let ids = *matched;
+    Err(learn(known, hint, rest, blame, before, count, ids))
 }
 
-// A rule's search gone on with, the long way: by the answers of its first row, row k, from number `from` on. `NONE` and the ids that are matched
-// then, or 0.
+// A rule's search gone on with, the long way: by the answers of its first row, row k, from number `from` on. The ids that are matched then, if
+// there is a match.
 fn search_rest<'a>(
     program: &'a [u32],
     words: &'a [u32],
@@ -527,11 +512,11 @@ fn search_rest<'a>(
     from: usize,
     values: &mut [u32; 8],
     matched: &mut [u32; 4],
-) -> u32
+) -> Option<usize>
     requires { Located program.now rule × Limits words.now s × (k < rule.body) × (reasons_in program.now k rule.body ≤ 4) × Sized values.old matched.old }
     ensures sized { Sized values.new matched.new }
-    ensures is { RestSearched (bind (answers words.now s (row_at program.now k) (found_in values.old matched.old 0) from) (counted program.now words.now s rule (k + 1))) values.new matched.new result }
-    ensures back { result < no_set → values.new ≡ values.old }
+    ensures is { Searched (bind (answers words.now s (row_at program.now k) (found_in values.old matched.old 0) from) (counted program.now words.now s rule (k + 1))) values.new matched.new result }
+    ensures back { result ≡ None → values.new ≡ values.old }
 {
     let before = *values;
     let body = sets::of_body(program, rule.body, rule.end);
@@ -542,12 +527,10 @@ fn search_rest<'a>(
     let gives = sets::changed(r, &before);
     let n = queries::given_ids(r);
     let mut c = from;
-    loop {
-        c = filters::next_answer(words, s, r, c, before, 0, values, matched, &filter);
-        if c == 0 {
-            return 0;
-        }
-        let m = search_long(
+    while let Some(next) = filters::next_answer(
+        words, s, r, c, before, 0, values, matched, &filter,
+    ) {
+        let m = match search_long(
             program,
             words,
             s,
@@ -560,15 +543,17 @@ fn search_rest<'a>(
             &mut hints,
             &mut known,
             &filter,
-        );
-        if nogoods::NONE <= m {
-            return m;
-        }
+        ) {
+            Ok(found) => return Some(found),
+            Err(set) => set,
+        };
         *values = before;
         if sets::are_apart(m, gives) {
-            return 0;
+            return None;
         }
+        c = next;
     }
+    None
 }
 
 // The same. A first row that leaves everything as it was needs one answer: then the search is that of the rows behind it.
@@ -581,11 +566,11 @@ fn search_on<'a>(
     from: usize,
     values: &mut [u32; 8],
     matched: &mut [u32; 4],
-) -> u32
+) -> Option<usize>
     requires { Located program.now rule × Limits words.now s × (k < rule.body) × (reasons_in program.now k rule.body ≤ 4) × Sized values.old matched.old }
     ensures sized { Sized values.new matched.new }
-    ensures is { RestSearched (bind (answers words.now s (row_at program.now k) (found_in values.old matched.old 0) from) (counted program.now words.now s rule (k + 1))) values.new matched.new result }
-    ensures back { result < no_set → values.new ≡ values.old }
+    ensures is { Searched (bind (answers words.now s (row_at program.now k) (found_in values.old matched.old 0) from) (counted program.now words.now s rule (k + 1))) values.new matched.new result }
+    ensures back { result ≡ None → values.new ≡ values.old }
 {
     let before = *values;
     let r = program::row_at(program, k);
@@ -598,9 +583,7 @@ fn search_on<'a>(
     if !queries::closes(r, before) {
         return search_rest(program, words, s, rule, k, from, values, matched);
     }
-    if queries::next_answer(words, s, r, 0, before, 0, values, matched) == 0 {
-        return 0;
-    }
+    queries::next_answer(words, s, r, 0, before, 0, values, matched)?;
     *values = before;
     search_on(program, words, s, rule, k + 1, 0, values, matched)
 }
@@ -617,33 +600,22 @@ fn nothing() -> Bindings
 }
 
 // "the first rule in rising number that has a match": the rule that fires, its match, and where its body stands.
-pub fn choose<'a>(program: &'a [u32], words: &'a [u32], s: Scalars, set: u32) -> Choice
+pub fn choose<'a>(program: &'a [u32], words: &'a [u32], s: Scalars, set: u32) -> Option<Choice>
     requires { Lawful (rows_of program.now) × Limits words.now s }
-    ensures is { choice_of result ≡ firing (rows_of program.now) (config_of words.now s) set }
-    ensures chosen { result.found ≡ true → Chosen program.now set result }
+    ensures is { option_to_list (option_map choice_of result) ≡ firing (rows_of program.now) (config_of words.now s) set }
+    ensures chosen { IfSome result (Chosen program.now set) }
 {
     let f = nothing();
     let before = f.values;
     let mut values = before;
     let mut matched = f.matched;
-    let mut best = Choice {
-        bindings: f,
-        rule: Rule {
-            set,
-            number: 0,
-            body: 0,
-            end: 0,
-            object: false,
-        },
-        found: false,
-    };
     let n = program.len() / 8;
     let mut number: u32 = 1;
     let mut start = spans::first_from(program, set, 1, 1);
-    'rules: while start < n {
+    while start < n {
         let r = program::row_at(program, start);
         if r.set != set {
-            break 'rules;
+            return None;
         }
         let context = spans::part_end(program, start, set, number, 1);
         let body = spans::part_end(program, context, set, number, 2);
@@ -657,24 +629,23 @@ pub fn choose<'a>(program: &'a [u32], words: &'a [u32], s: Scalars, set: u32) ->
         };
         // with no row to try it matches as it is
         if body <= start {
-            best = Choice {
-                bindings: f,
-                rule,
-                found: true,
-            };
-            break 'rules;
+            return Some(Choice { bindings: f, rule });
         }
         let once = queries::closes(r, before);
-        let mut fuel: [u32; 1] = [FUEL; 1];
-        let mut c: usize = 0;
-        'candidates: loop {
-            let from = c;
-            c = queries::next_answer(words, s, r, from, before, 0, &mut values, &mut matched);
-            if c == 0 {
-                break 'candidates;
-            }
+        let mut fuel = FUEL;
+        let mut from: usize = 0;
+        'candidates: while let Some(next) = queries::next_answer(
+            words,
+            s,
+            r,
+            from,
+            before,
+            0,
+            &mut values,
+            &mut matched,
+        ) {
             let ids = queries::given_ids(r);
-            let m = search(
+            match search(
                 program,
                 words,
                 s,
@@ -684,52 +655,50 @@ pub fn choose<'a>(program: &'a [u32], words: &'a [u32], s: Scalars, set: u32) ->
                 &mut values,
                 &mut matched,
                 &mut fuel,
-            );
-            if m == 6 {
-                values = before;
-                let d = search_on(
-                    program,
-                    words,
-                    s,
-                    rule,
-                    start,
-                    from,
-                    &mut values,
-                    &mut matched,
-                );
-                if d < nogoods::NONE {
-                    break 'candidates;
+            ) {
+                Ok(Some(count)) => {
+                    return Some(Choice {
+                        bindings: Bindings {
+                            values,
+                            matched,
+                            count,
+                        },
+                        rule,
+                    });
                 }
-                best = Choice {
-                    bindings: Bindings {
-                        values,
-                        matched,
-                        count: (d - nogoods::NONE) as usize,
-                    },
-                    rule,
-                    found: true,
-                };
-                break 'rules;
-            }
-            if m != 0 {
-                best = Choice {
-                    bindings: Bindings {
-                        values,
-                        matched,
-                        count: m - 1,
-                    },
-                    rule,
-                    found: true,
-                };
-                break 'rules;
+                Ok(None) => {}
+                Err(GaveUp) => {
+                    values = before;
+                    let Some(count) = search_on(
+                        program,
+                        words,
+                        s,
+                        rule,
+                        start,
+                        from,
+                        &mut values,
+                        &mut matched,
+                    ) else {
+                        break 'candidates;
+                    };
+                    return Some(Choice {
+                        bindings: Bindings {
+                            values,
+                            matched,
+                            count,
+                        },
+                        rule,
+                    });
+                }
             }
             values = before;
             if once {
                 break 'candidates;
             }
+            from = next;
         }
         number += 1;
         start = end;
     }
-    best
+    None
 }

@@ -1,7 +1,7 @@
 // Sets of the eight variables and of the ids, as bits: what a failing search hangs on.
-ghost use Rattle.std.specs.Prelude.{◌≡◌, true, ◌≢◌, ℕ, ◌/◌, ◌<◌, ◌≤◌, length};
+ghost use Rattle.std.specs.Prelude.{◌≡◌, true, ℕ, ◌/◌, ◌<◌, ◌≤◌, length, IfSome};
 ghost use Rattle.model.specs.Configuration.{no_value, place, value_of};
-ghost use Rattle.nogoods.specs.Nogoods.{has as has-bit, no_set};
+ghost use Rattle.nogoods.specs.Nogoods.{has as has-bit, all_sets};
 ghost use Rattle.matching.specs.Sets.{Member, Joined, OfRow, OfBody, Changed, Settled};
 
 use model::Row;
@@ -11,7 +11,7 @@ const NOTED: u32 = 1;
 
 // The variable of an operand, if it is one.
 pub fn bit(x: u32) -> u32
-    ensures { (result < no_set) × Member result x }
+    ensures { (result < all_sets) × Member result x }
 {
     if x == 0 {
         return 0;
@@ -24,7 +24,7 @@ pub fn bit(x: u32) -> u32
 
 // What either set has.
 pub fn union(a: u32, b: u32) -> u32
-    requires { (a < no_set) × (b < no_set) }
+    requires { (a < all_sets) × (b < all_sets) }
     ensures { Joined a b result }
 {
     a | b
@@ -46,10 +46,8 @@ pub fn of_body(program: &[u32], from: usize, to: usize) -> u32
     ensures { OfBody program.now from to result }
 {
     let mut set: u32 = 256;
-    let mut j = from;
-    while j < to {
+    for j in from..to {
         set = union(set, operands(program::row_at(program, j)));
-        j += 1;
     }
     set
 }
@@ -57,7 +55,7 @@ pub fn of_body(program: &[u32], from: usize, to: usize) -> u32
 // The variable of an operand that takes a value.
 fn open(x: u32, values: &[u32]) -> u32
     requires { length values.now ≡ 8 }
-    ensures { (result < no_set) × (1 ≤ x → x ≤ 8 → value_of values.now x ≡ no_value → has-bit result (place x) ≡ true) }
+    ensures { (result < all_sets) × (1 ≤ x → x ≤ 8 → value_of values.now x ≡ no_value → has-bit result (place x) ≡ true) }
 {
     if queries::settles(x, values) {
         return 0;
@@ -83,15 +81,15 @@ pub fn changed(r: Row, values: &[u32]) -> u32
     union(set, 256)
 }
 
-// The same, asked once: `NONE` where it was not asked yet.
-pub fn asked(known: u32, r: Row, values: &[u32]) -> u32
-    requires { (length values.now ≡ 8) × (known ≢ no_set → Changed r values.now known) }
+// The same, asked once: known if it was asked already.
+pub fn asked(known: Option<u32>, r: Row, values: &[u32]) -> u32
+    requires { (length values.now ≡ 8) × IfSome known (Changed r values.now) }
     ensures { Changed r values.now result }
 {
-    if known == nogoods::NONE {
-        return changed(r, values);
+    match known {
+        Some(set) => set,
+        None => changed(r, values),
     }
-    known
 }
 
 // Whether two sets have nothing in common.

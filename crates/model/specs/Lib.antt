@@ -1,3 +1,4 @@
+pub mod Refusals
 pub mod Program
 pub mod Configuration
 pub mod Graph

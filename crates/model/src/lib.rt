@@ -1,9 +1,13 @@
 // The plain data that text, program and interpreter share. What they mean stands in specs/.
 #![tactic(auto)]
 
+pub mod refusal;
+
 ghost use Rattle.std.specs.Prelude.{◌≡◌};
 ghost use Rattle.model.specs.Program.{constant as constant_of};
 ghost use Rattle.model.specs.Tables.{KeysHold, CasesHold};
+
+pub use refusal::{LoadError, Refusal};
 
 // A row of a program text. Columns i, a and b hold operands, each 9 higher than written, so that no number is negative.
 #[derive(Clone, Copy)]
@@ -50,10 +54,7 @@ pub struct Scan {
 pub fn constant(x: u32) -> u32
     ensures { result ≡ constant_of x }
 {
-    if x < 9 {
-        return 0;
-    }
-    x - 9
+    x.saturating_sub(9)
 }
 
 // Does nothing: it promises the tables, so that no check passes without their facts.

@@ -4,21 +4,18 @@ use mathlib.Core.Bool.{Bool, true, false, not, ◌&&◌, false≢true}
 use mathlib.Core.List.{List, [], ◌∷◌, ◌++◌}
 use mathlib.Core.Logic.{◌⊎◌, inl, inr, ⊎_elim, ◌≢◌}
 use Prim.Native.Nat.{ℕ, ◌+◌, ◌*◌, ◌/◌, ◌%◌, ◌^◌, ◌<◌, ◌≤◌}
-use native.Mathlib.Nat.{div-div-eq-div-mul, pow-suc}
-use native.Mathlib.Numerals.{add-one}
 use native.Mathlib.Omega.{arith}
-use lib.ListN.{length, drop, get_or, length-append, length-drop}
-use lib.Seq.{ext_get_or, get_or-take, get_or-drop, get_or_at, take_at, drop-append-add}
+use lib.ListN.{length, take, drop, get_or, length-append}
+use lib.Pointwise.{pointwise}
+use Rattle.std.proofs.lemmas.List.{drop-take, drop-drop}
+use Rattle.std.specs.Cmp.Lexicographic.{same_text}
+use lib.Seq.{get_or-take, get_or-drop, get_or_at, take_at, drop-append-add}
 use lib.Dec.{eqb}
 use borrow.Author.Tests.{eqb-true, not-false}
 use Rattle.lists.proofs.Tables.{equal_or_not, less_or_more}
 use Rattle.table.specs.Rows.{row, placed}
 use Rattle.table.proofs.Rows.{placed_same, placed_before, placed_after, placed_long}
 use Rattle.nogoods.specs.Nogoods.{has, nogood, values_in, count_in, ids_in, Replaced}
-
--- the bits left after j halvings
-pub halved : (n j : ℕ) → n / 2 ^ j / 2 ≡ n / 2 ^ (j + 1)
-halved n j = div-div-eq-div-mul n (2 ^ j) 2 ∙ ap (λ (x : ℕ). n / x) (sym (pow-suc 2 j) ∙ ap (λ (x : ℕ). 2 ^ x) (sym (add-one j)))
 
 -- a value of a nogood among its numbers
 value_at : (e : List ℕ) (j : ℕ) → j < 8 → get_or (values_in e) j 0 ≡ get_or e (j + 2) 0
@@ -34,37 +31,28 @@ abbrev pub SameBelow : List ℕ → List ℕ → ℕ → ℕ → Type 0
 SameBelow e values set j = (i : ℕ) → i < j → has set i ≡ true → get_or (values_in e) i 0 ≡ get_or values i 0
 
 -- one variable more; x is the nogood's value of it
-pub same_more : (e values : List ℕ) (set left j x : ℕ) → left ≡ set / 2 ^ j → j < 8 → x ≡ get_or e (j + 2) 0 →
-    (eqb (left % 2) 1 && not (eqb x (get_or values j 0))) ≡ false → SameBelow e values set j → SameBelow e values set (j + 1)
+pub same_more : (e values : List ℕ) (set j x : ℕ) → j < 8 → x ≡ get_or e (j + 2) 0 → (eqb (set / 2 ^ j % 2) 1 && not (eqb x (get_or values j 0))) ≡ false →
+    SameBelow e values set j → SameBelow e values set (j + 1)
 unfolding has
-same_more e values set left j x l h r t s i b m = ⊎_elim
+same_more e values set j x h r t s i b m = ⊎_elim
     (λ (q : i ≡ j). subst (λ (k : ℕ). has set k ≡ true → get_or (values_in e) k 0 ≡ get_or values k 0) (sym q) here m)
     (λ (q : i ≢ j). s i (omega arith) m)
     (equal_or_not i j)
   where
     here : has set j ≡ true → get_or (values_in e) j 0 ≡ get_or values j 0
-    here m =
-        let odd : eqb (left % 2) 1 ≡ true = ap (λ (n : ℕ). eqb (n % 2) 1) l ∙ m in
-        value_at e j h ∙ sym r ∙ eqb-true x (get_or values j 0) (then_same (eqb (left % 2) 1) (eqb x (get_or values j 0)) t odd)
+    here odd = value_at e j h ∙ sym r ∙ eqb-true x (get_or values j 0) (then_same (eqb (set / 2 ^ j % 2) 1) (eqb x (get_or values j 0)) t odd)
 
 -- a set without the ids
 pub no_ids : (set : ℕ) → set / 256 % 2 ≡ 0 → has set 8 ≡ true → ⊥
 unfolding has
 no_ids set z m = let o : set / 256 % 2 ≡ 1 = eqb-true (set / 256 % 2) 1 m in omega arith
 
--- the ids below j are the same, and one more
-pub ids_more : (e ids : List ℕ) (j : ℕ) → get_or e (j + 11) 0 ≡ get_or ids j 0 → ((i : ℕ) → i < j → get_or e (i + 11) 0 ≡ get_or ids i 0) →
-    (i : ℕ) → i < j + 1 → get_or e (i + 11) 0 ≡ get_or ids i 0
-ids_more e ids j n s i h = ⊎_elim
-    (λ (q : i ≡ j). subst (λ (k : ℕ). get_or e (k + 11) 0 ≡ get_or ids k 0) (sym q) n)
-    (λ (q : i ≢ j). s i (omega arith))
-    (equal_or_not i j)
-
--- all four
-pub ids_same : (e ids : List ℕ) → length e ≡ 15 → length ids ≡ 4 → ((i : ℕ) → i < 4 → get_or e (i + 11) 0 ≡ get_or ids i 0) → ids_in e ≡ ids
-ids_same e ids l n f =
-    let d : length (drop 11 e) ≡ 4 = length-drop 11 e ∙ omega arith in
-    ext_get_or 0 (drop 11 e) ids (d ∙ sym n) (λ i h. get_or-drop 11 e i 0 ∙ ap (λ (x : ℕ). get_or e x 0) (omega arith) ∙ f i (omega (arith, d, h)))
+-- the ids of a nogood stand last in its row
+pub ids_at : (l ids : List ℕ) (k n : ℕ) → n ≡ 4 → pointwise eqb (take n (drop (k * 15 + 11) l)) ids ≡ true → ids_in (row 15 l k) ≡ ids
+unfolding row
+ids_at l ids k n e t =
+    drop-take 11 4 (drop (k * 15) l) ∙ ap (take 4) (drop-drop 11 (k * 15) l)
+    ∙ same_text _ ids (sym t ∙ ap (λ (m : ℕ). pointwise eqb (take m (drop (k * 15 + 11) l)) ids) e)
 
 -- the parts of a nogood are what it was made of
 module _ (rest set : ℕ) (values : List ℕ) (count : ℕ) (ids : List ℕ) (v : length values ≡ 8) where

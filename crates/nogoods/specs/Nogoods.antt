@@ -7,9 +7,9 @@ use Rattle.table.specs.Rows.{row, placed}
 unfoldable pub has : ℕ → ℕ → Bool
 has set j = eqb (set / 2 ^ j % 2) 1
 
--- no set: each is less
-abbrev pub no_set : ℕ
-no_set = 512
+-- how many sets there are: each is less
+abbrev pub all_sets : ℕ
+all_sets = 512
 
 -- the numbers of a nogood, the nogoods of a table, and its numbers
 abbrev pub width : ℕ

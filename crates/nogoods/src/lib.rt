@@ -1,18 +1,15 @@
 // A table of nogoods: what failing searches tell later ones. Of two that claim the same place the newer stays; a lost one costs time alone.
 #![tactic(auto)]
 
-ghost use Rattle.std.specs.Prelude.{◌≡◌, true, ◌≢◌, ℕ, ◌<◌, ◌≤◌, length, get_or};
+ghost use Rattle.std.specs.Prelude.{◌≡◌, true, ℕ, ◌<◌, ◌≤◌, length, get_or, IfSome};
 ghost use Rattle.table.specs.Rows.{row};
-ghost use Rattle.nogoods.specs.Nogoods.{has, no_set, width, places, size, nogood, values_in, count_in, ids_in, Recalled, Replaced};
+ghost use Rattle.nogoods.specs.Nogoods.{has, width, places, size, nogood, values_in, count_in, ids_in, Recalled, Replaced};
 
 // The numbers of a nogood.
 const WIDTH: usize = 15;
 
 // The numbers of a table: 512 nogoods.
 pub const SIZE: usize = 7680;
-
-// What `recall` answers where it knows nothing; every set is less.
-pub const NONE: u32 = 512;
 
 // Where a nogood stands: by the rows to go and the values that they look at. Every fourth row has 128 places, so that those of later rows, which
 // are many, do not displace those of earlier ones. 1009 keeps the variables apart; 40503 is 65536 divided by the golden ratio, and spreads the
@@ -21,14 +18,10 @@ fn place(rest: usize, looked: u32, values: [u32; 8]) -> usize
     ensures { result < places }
 {
     let mut sum = (rest % 65536) as u32;
-    let mut bits = looked;
-    let mut k: usize = 0;
-    while k < 8 {
-        if bits % 2 == 1 {
+    for k in 0..8 {
+        if (looked >> k) % 2 == 1 {
             sum = (sum * 1009 + values[k] % 65536) % 65536;
         }
-        bits = bits / 2;
-        k += 1;
     }
     rest % 4 * 128 + (sum * 40503 % 65536 / 512) as usize
 }
@@ -38,14 +31,10 @@ fn same_values(nogoods: &[u32], at: usize, set: u32, values: [u32; 8]) -> bool
     requires { (length nogoods.now ≡ size) × (at < places) }
     ensures { result ≡ true → (j : ℕ) → j < 8 → has set j ≡ true → get_or (values_in (row width nogoods.now at)) j 0 ≡ get_or values j 0 }
 {
-    let mut left = set;
-    let mut j: usize = 0;
-    while j < 8 {
-        if (left % 2 == 1) & (table::read(nogoods, WIDTH, at, j + 2) != values[j]) {
+    for j in 0..8 {
+        if ((set >> j) % 2 == 1) & (table::read(nogoods, WIDTH, at, j + 2) != values[j]) {
             return false;
         }
-        left = left / 2;
-        j += 1;
     }
     true
 }
@@ -58,18 +47,12 @@ fn same_ids(nogoods: &[u32], at: usize, count: usize, ids: [u32; 4]) -> bool
     if table::read(nogoods, WIDTH, at, 10) as usize != count {
         return false;
     }
-    let mut j: usize = 0;
-    while j < 4 {
-        if table::read(nogoods, WIDTH, at, j + 11) != ids[j] {
-            return false;
-        }
-        j += 1;
-    }
-    true
+    let first = at * WIDTH + 11;
+    &nogoods[first..first + 4] == &ids[..]
 }
 
-// The set of a nogood that speaks of these values and ids; 512 where none is found. `looked` is what the rows to go look at: a wrong one
-// costs time alone.
+// The set of a nogood that speaks of these values and ids, if one is found. `looked` is what the rows to go look at: a wrong one costs time
+// alone.
 pub fn recall(
     nogoods: &[u32],
     rest: usize,
@@ -77,25 +60,25 @@ pub fn recall(
     values: [u32; 8],
     count: usize,
     ids: [u32; 4],
-) -> u32
+) -> Option<u32>
     requires { length nogoods.now ≡ size }
-    ensures { result ≢ no_set → Recalled nogoods.now rest result values count ids }
+    ensures { IfSome result (λ set. Recalled nogoods.now rest set values count ids) }
 {
     let at = place(rest, looked, values);
     if table::read(nogoods, WIDTH, at, 0) as usize != rest {
-        return NONE;
+        return None;
     }
     let set = table::read(nogoods, WIDTH, at, 1);
     if !same_values(nogoods, at, set, values) {
-        return NONE;
+        return None;
     }
     if set / 256 % 2 == 0 {
-        return set;
+        return Some(set);
     }
     if same_ids(nogoods, at, count, ids) {
-        return set;
+        return Some(set);
     }
-    NONE
+    None
 }
 
 // A nogood in its numbers.

@@ -1,8 +1,8 @@
 // A plan with its rule: what its operands stand for, and its next step.
 #![tactic(auto)]
 
-ghost use Rattle.std.specs.Prelude.{◌≡◌, ◌<◌, ◌≤◌, length};
-ghost use Rattle.lists.specs.Lists.{Pairs, when, first_of};
+ghost use Rattle.std.specs.Prelude.{◌≡◌, ◌<◌, ◌≤◌, length, option_to_list};
+ghost use Rattle.lists.specs.Lists.{Pairs, first_of};
 ghost use Rattle.model.specs.Configuration.{value_of, operand, remainder};
 ghost use Rattle.program.specs.Rows.{rows_of};
 ghost use Rattle.program_laws.specs.Lawful.{NotLater};
@@ -13,6 +13,7 @@ use model::Row;
 use spans::Span;
 
 // The value of operand x, which is no constant, in plan k.
+#[tactic(auto, using(lists::proofs::Counted::get_past, state::proofs::View::values_long))]
 pub fn value_of(words: &[u32], k: usize, x: u32) -> u32
     requires { (length words.now ≡ 2432) × (k < 64) × (x ≤ 8) }
     ensures { result ≡ value_of (plan_at words.now k).values x }
@@ -24,6 +25,7 @@ pub fn value_of(words: &[u32], k: usize, x: u32) -> u32
 }
 
 // The number that operand x stands for in plan k.
+#[tactic(auto, unfolding(model::specs::Configuration::operand))]
 pub fn operand(words: &[u32], k: usize, x: u32) -> u32
     requires { (length words.now ≡ 2432) × (k < 64) }
     ensures { result ≡ operand (plan_at words.now k).values x }
@@ -35,6 +37,7 @@ pub fn operand(words: &[u32], k: usize, x: u32) -> u32
 }
 
 // The rows of the body that plan k came from.
+#[tactic(auto, using(crate::proofs::Bodies::span_body))]
 pub fn body_of(program: &[u32], words: &[u32], k: usize) -> Span
     requires { (length words.now ≡ 2432) × (k < 64) × Pairs NotLater (rows_of program.now) }
     ensures { BodyAt program.now (plan_at words.now k) result }
@@ -49,39 +52,18 @@ fn remainder_at(span: Span, left: u32) -> usize
     requires { span.from ≤ span.to }
     ensures { result ≡ remainder_at span left }
 {
-    let n = left as usize;
-    if span.to - span.from <= n {
-        return span.from;
-    }
-    span.to - n
+    span.from + (span.to - span.from).saturating_sub(left as usize)
 }
 
-// The first row of a remainder; any row where none is found.
-#[derive(Clone, Copy)]
-pub struct Next {
-    pub row: Row,
-    pub found: bool,
-}
-
-// The next step of plan k, whose body stands in the span.
-pub fn next_step(program: &[u32], words: &[u32], k: usize, span: Span) -> Next
+// The next step of plan k, whose body stands in the span, if one is left.
+#[tactic(auto, using(crate::proofs::Bodies::first_step, crate::proofs::Bodies::no_step))]
+pub fn next_step(program: &[u32], words: &[u32], k: usize, span: Span) -> Option<Row>
     requires { (length words.now ≡ 2432) × (k < 64) × BodyAt program.now (plan_at words.now k) span }
-    ensures { when result.found result.row ≡ first_of (remainder (rows_of program.now) (plan_at words.now k)) }
+    ensures { option_to_list result ≡ first_of (remainder (rows_of program.now) (plan_at words.now k)) }
 {
     let j = remainder_at(span, state::plan_left(words, k));
     if span.to <= j {
-        let row = Row {
-            set: 0,
-            rule: 0,
-            part: 0,
-            op: 0,
-            i: 0,
-            p: 0,
-            a: 0,
-            b: 0,
-        };
-        return Next { row, found: false };
+        return None;
     }
-    let row = program::row_at(program, j);
-    Next { row, found: true }
+    Some(program::row_at(program, j))
 }

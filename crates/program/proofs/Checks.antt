@@ -1,12 +1,12 @@
 -- The test that words are a program, row by row.
-use Rattle.std.specs.Prelude.{if◌then◌else◌}
+use Rattle.std.specs.Prelude.{if◌then◌else◌, Ok, Err}
 use mathlib.Core.Path.{◌≡◌, refl, sym, ◌∙◌}
 use mathlib.Core.Bool.{Bool, true, false, not, ◌&&◌, and-false}
 use mathlib.Core.List.{List, [], ◌∷◌, ◌++◌}
 use Prim.Native.Nat.{ℕ, ◌+◌, ◌-◌, ◌/◌, ◌%◌, ◌≤◌, ◌<◌}
 use native.Mathlib.Omega.{arith}
 use lib.ListN.{length}
-use borrow.Author.Tests.{eq-eqb, ne_eqb, not-true, not-false}
+use borrow.Author.Tests.{eq-eqb, ne_eqb}
 use Rattle.lists.specs.Lists.{every}
 use Rattle.model.specs.declared.Row.{Row}
 use Rattle.model.specs.declared.Scan.{Scan}
@@ -14,7 +14,8 @@ use Rattle.model.specs.Load.{at_first, take_row, passed, lacking, finish, go_on,
 use Rattle.model.specs.Render.{in_range, take_rows, is_loaded, well_formed}
 use Rattle.program_laws.proofs.Range.{in_range_of}
 use Rattle.rows.specs.Scanning.{whole as scanned, Small, verdict_of}
-use Rattle.rows.specs.declared.Verdict.{Verdict}
+use Rattle.rows.specs.declared.RuleScan.{RuleScan}
+use Rattle.model.specs.declared.refusal.LoadError.{LoadError}
 use Rattle.rows.proofs.Scans.{small_first, passed_counts}
 use Rattle.program.specs.Rows.{row_at, rows_from, rows_of, program_formed}
 use Rattle.program.proofs.Words.{rows_next, rows_none}
@@ -65,8 +66,8 @@ module _ {words : List ℕ} {s : Scan} {k : ℕ} (w : Checking words s k) where
     unfolding every take_rows
     one_row = rw (rows_next words k (length words / 8) h, e)
 
-    pub outside : {b : Bool} → b ≡ in_range r → not b ≡ true → false ≡ program_formed words
-    outside {b} q z = left (one_row ∙ rw (sym q ∙ not-true b z))
+    pub outside : in_range r ≡ false → false ≡ program_formed words
+    outside z = left (one_row ∙ rw z)
 
     -- a row that is known to pass
     pub row_sure : (t : Scan) → in_range r ≡ true → take_row s r ≡ passed t → Checking words t (k + 1)
@@ -79,25 +80,17 @@ module _ {words : List ℕ} {s : Scan} {k : ℕ} (w : Checking words s k) where
       so_far = w.so_far ∙ one_row ∙ rw (q, z);
     }
 
-    module _ (v : Verdict) (D : List ℕ) (f : verdict_of v D ≡ take_row s r) where
-      pub row_refused : (v.number ≡ 0 → ⊥) → false ≡ program_formed words
+    module _ (D : List ℕ) where
+      pub row_refused : (f : LoadError) → verdict_of (Err f) D ≡ take_row s r → false ≡ program_formed words
       unfolding verdict_of go_on is_loaded
-      row_refused z = left (one_row ∙ rw (← f, ne_eqb v.number 0 z, and-false))
+      row_refused f v = left (one_row ∙ rw (← v, and-false))
 
-      taken_row : v.number ≡ 0 → take_row s r ≡ passed (scanned v.scan D)
+      pub row_checked : (t : RuleScan) → verdict_of (Ok t) D ≡ take_row s r → in_range r ≡ true → Checking words (scanned t D) (k + 1)
       unfolding verdict_of
-      taken_row z = sym f ∙ rw z
-
-      pub row_checked : {b : Bool} → b ≡ in_range r → not b ≡ false → v.number ≡ 0 → Checking words (scanned v.scan D) (k + 1)
-      unfolding go_on
-      row_checked {b} q y z = record {
-        whole = w.whole;
-        inside = omega arith;
-        small = (passed_counts r (scanned v.scan D) w.small (taken_row z)).small;
-        passed_rows = w.passed_rows ++ (r ∷ []);
-        so_far = w.so_far ∙ one_row ∙ rw (sym q ∙ not-false b y, taken_row z);
-      }
+      row_checked t v q = row_sure (scanned t D) q (sym v)
 
 -- a row in range has a predicate that a table of 256 holds
-pub predicate_small : (r : Row) {b : Bool} → b ≡ in_range r → not b ≡ false → r.p ≤ 255
-predicate_small r {b} q y = (in_range_of r (sym q ∙ not-false b y)).p
+pub predicate_small : (r : Row) → in_range r ≡ true → r.p ≤ 255
+predicate_small r q = (in_range_of r q).p
+
+pub ruleset check_laws = (row_checked, predicate_small)

@@ -1,7 +1,7 @@
 -- The load of a text, line by line: what each way through the code's loop says of the model's `load`.
-use Rattle.std.specs.Prelude.{if◌then◌else◌}
+use Rattle.std.specs.Prelude.{if◌then◌else◌, Some, None, Ok, Err}
 use mathlib.Core.Path.{◌≡◌, refl, ap, sym, subst, ◌∙◌}
-use mathlib.Core.Bool.{Bool, true, false, not}
+use mathlib.Core.Bool.{Bool, true, false}
 use mathlib.Core.Logic.{◌≢◌}
 use mathlib.Core.List.{List, [], ◌∷◌, ◌++◌}
 use mathlib.Core.Option.{Option, none, some}
@@ -9,7 +9,7 @@ use Prim.Native.Nat.{ℕ, ◌+◌, ◌-◌, ◌*◌, ◌≤◌, ◌<◌}
 use native.Mathlib.Omega.{arith}
 use lib.ListN.{length, drop, take, length-append}
 use lib.Dec.{eqb}
-use borrow.Author.Tests.{eqb-true, eqb-false, ne_eqb, not-true, not-false}
+use borrow.Author.Tests.{eqb-true, eqb-false}
 use Rattle.lists.specs.Lists.{same}
 use Rattle.table.specs.Rows.{placed}
 use Rattle.table.proofs.Rows.{placed_long}
@@ -20,12 +20,13 @@ use Rattle.model.specs.Load.{load, from_names, load_lines, take_line, go_on, pas
 use Rattle.program_laws.proofs.Range.{InRange}
 use Rattle.program_laws.proofs.WellFormed.{RowInRange, line_in_range}
 use Rattle.text.specs.Reading.{Ends, line_of, as_line}
-use Rattle.text.specs.declared.Line.TheVariants.{Whole, Unread}
 use Rattle.text.proofs.Ends.{lines_end}
 use Rattle.rows.specs.Scanning.{whole as scanned, Small, verdict_of}
-use Rattle.rows.specs.declared.Verdict.{Verdict}
+use Rattle.rows.specs.declared.RuleScan.{RuleScan}
 use Rattle.rows.proofs.Scans.{small_first, passed_counts}
-use Rattle.program.specs.declared.Loaded.{Loaded}
+use Rattle.model.specs.declared.refusal.LoadError.{LoadError}
+use Rattle.model.specs.declared.refusal.Refusal.TheVariants.{Layout}
+use Rattle.model.specs.Refusals.{number_of}
 use Rattle.program.specs.Rows.{row_words, words_of}
 use Rattle.program.specs.Loading.{answer_of, loading, seen}
 use Rattle.program.proofs.Words.{eight, store_row}
@@ -34,10 +35,13 @@ use Rattle.program.proofs.Words.{eight, store_row}
 pub record Refuses (text : List ℕ) (n k : ℕ) : Type 0 where
   pub is : load text ≡ refused n k
 
--- an answer that says so, with the lent program as it was, is the load's
-pub refused_as : (text lent : List ℕ) {n k : ℕ} (r : Loaded) → Refuses text n k → (r.number ≡ n) × (r.line ≡ k) × (r.rows ≡ 0) → seen r lent ≡ loading text lent
+-- an error that says so, with the lent program as it was, is the load's answer
+pub refused_as : (text lent : List ℕ) (f : LoadError) → Refuses text (number_of f.refusal) f.line → seen (Err f) lent ≡ loading text lent
 unfolding seen loading answer_of
-refused_as text lent r w e = simp (w.is, e.0, e.1, e.2)
+refused_as text lent f w = rw w.is
+
+pub refused_layout : (text lent : List ℕ) {k : ℕ} (f : LoadError) → Refuses text 2 k → (f.refusal ≡ Layout) × (f.line ≡ k) → seen (Err f) lent ≡ loading text lent
+refused_layout text lent f w e = refused_as text lent f (record { is = rw (e.0, e.1) w.is })
 
 module _ (text : List ℕ) {first : ℕ} (w : Ends text 0 first) where
   pub no_line : length text ≤ first → Refuses text 2 1
@@ -52,8 +56,8 @@ module _ (text : List ℕ) {first : ℕ} (w : Ends text 0 first) where
   unfolding load from_names
   names_first h = let e : first - 0 ≡ first = omega arith in rw (w.ended h, e)
 
-  pub wrong_names : {b : Bool} → first < length text → b ≡ same (take first text) names → not b ≡ true → Refuses text 2 1
-  wrong_names {b} h q e = record { is = names_first h ∙ rw (sym q ∙ not-true b e) }
+  pub wrong_names : {b : Bool} → first < length text → b ≡ same (take first text) names → b ≡ false → Refuses text 2 1
+  wrong_names h q e = record { is = names_first h ∙ rw (sym q ∙ e) }
 
 -- the load stands at a place of the text, after rows that stand first in the words
 pub record Loading (text lent words : List ℕ) (s : Scan) (at : ℕ) : Type 0 where
@@ -66,7 +70,7 @@ pub record Loading (text lent words : List ℕ) (s : Scan) (at : ℕ) : Type 0 w
   pub so_far : load text ≡ load_lines s rows (lines (drop at text))
 
 pub loading_begins : (text : List ℕ) {first : ℕ} (w : Ends text 0 first) (lent : List ℕ) (s : Scan) {b : Bool} {words : List ℕ} → length words ≡ 4096 → words ≡ lent → first < length text
-    → b ≡ same (take first text) names → not b ≡ false → s ≡ at_first → Loading text lent words s (first + 1)
+    → b ≡ same (take first text) names → b ≡ true → s ≡ at_first → Loading text lent words s (first + 1)
 unfolding at_first words_of
 loading_begins text w lent s {b} l c h q e z = rw z (record {
   inside = omega arith;
@@ -75,7 +79,7 @@ loading_begins text w lent s {b} l c h q e z = rw z (record {
   rows = [];
   counted = refl;
   stored = c;
-  so_far = names_first text w h ∙ rw (sym q ∙ not-false b e);
+  so_far = names_first text w h ∙ rw (sym q ∙ e);
 })
 
 module _ {text lent words : List ℕ} {s : Scan} {at : ℕ} (w : Loading text lent words s at) where
@@ -83,7 +87,7 @@ module _ {text lent words : List ℕ} {s : Scan} {at : ℕ} (w : Loading text le
   unfolding load_lines finish
   done_lacking h q e = record { is = w.so_far ∙ rw (lines_end text at h, sym q ∙ e) }
 
-  pub done : {b : Bool} → length text ≤ at → b ≡ lacking s → b ≡ false → seen (record { number = 0; line = 0; rows = s.count }) words ≡ loading text lent
+  pub done : {b : Bool} → length text ≤ at → b ≡ lacking s → b ≡ false → seen (Ok s.count) words ≡ loading text lent
   unfolding load_lines finish seen loading answer_of
   done h q e =
       let f : load text ≡ loaded w.rows = w.so_far ∙ rw (lines_end text at h, sym q ∙ e) in
@@ -95,21 +99,21 @@ module _ {text lent words : List ℕ} {s : Scan} {at : ℕ} (w : Loading text le
     unended_line k = record { is = w.so_far ∙ rw (c.no_end k h) }
 
     module _ (k : end < length text) where
-      pub unread_line : Unread ≡ line_of (take (end - at) (drop at text)) → Refuses text 2 (s.count + 2)
+      pub unread_line : None ≡ line_of (take (end - at) (drop at text)) → Refuses text 2 (s.count + 2)
       unfolding load_lines take_line line_of
       unread_line u = record { is = w.so_far ∙ rw (c.ended k) (go (read_row (take (end - at) (drop at text))) u) }
         where
-          go : (o : Option Row) → Unread ≡ as_line o
+          go : (o : Option Row) → None ≡ as_line o
               → take_line s (λ r t. load_lines t (w.rows ++ (r ∷ [])) (lines (drop (end + 1) text))) o ≡ refused 2 (s.count + 2)
           go none u = refl
           go (some r) u = let z : ◌≡◌ {A = ℕ} 0 1 = cc in absurd (omega arith)
 
-      module _ {row : Row} (u : Whole row ≡ line_of (take (end - at) (drop at text))) where
+      module _ {row : Row} (u : Some row ≡ line_of (take (end - at) (drop at text))) where
         the_row : read_row (take (end - at) (drop at text)) ≡ some row
         unfolding line_of
         the_row = go (read_row (take (end - at) (drop at text))) refl u
           where
-            go : (o : Option Row) → read_row (take (end - at) (drop at text)) ≡ o → Whole row ≡ as_line o → read_row (take (end - at) (drop at text)) ≡ some row
+            go : (o : Option Row) → read_row (take (end - at) (drop at text)) ≡ o → Some row ≡ as_line o → read_row (take (end - at) (drop at text)) ≡ some row
             go none q u = let z : ◌≡◌ {A = ℕ} 0 1 = cc in absurd (omega arith)
             go (some r) q u = let f : r ≡ row = cc in q ∙ ap some f
 
@@ -120,31 +124,32 @@ module _ {text lent words : List ℕ} {s : Scan} {at : ℕ} (w : Loading text le
         unfolding load_lines take_line
         at_row = w.so_far ∙ rw (c.ended k, the_row)
 
-        module _ (v : Verdict) (D : List ℕ) (f : verdict_of v D ≡ take_row s row) where
-          pub row_refused : (v.number ≡ 0 → ⊥) → Refuses text v.number v.line
+        module _ (D : List ℕ) where
+          pub row_refused : (f : LoadError) → verdict_of (Err f) D ≡ take_row s row → Refuses text (number_of f.refusal) f.line
           unfolding verdict_of go_on
-          row_refused z = record { is = at_row ∙ rw (← f, ne_eqb v.number 0 z) }
+          row_refused f v = record { is = at_row ∙ rw (← v) }
 
-          passes_on : v.number ≡ 0 → take_row s row ≡ passed (scanned v.scan D)
-          unfolding verdict_of
-          passes_on z = sym f ∙ rw z
+          module _ (t : RuleScan) (v : verdict_of (Ok t) D ≡ take_row s row) where
+            passes_on : take_row s row ≡ passed (scanned t D)
+            unfolding verdict_of
+            passes_on = sym v
 
-          pub row_room : v.number ≡ 0 → s.count ≤ 511
-          row_room z = (passed_counts row (scanned v.scan D) w.small (passes_on z)).room
+            pub row_room : s.count ≤ 511
+            row_room = (passed_counts row (scanned t D) w.small passes_on).room
 
-          pub row_taken : {new : List ℕ} → v.number ≡ 0 → new ≡ placed 8 words s.count (row_words row) → Loading text lent new (scanned v.scan D) (end + 1)
-          unfolding go_on
-          row_taken {new} z y =
-              let p = passed_counts row (scanned v.scan D) w.small (passes_on z) in
-              let m = p.room in
-              let n = w.counted in
-              let l = w.long in
-              record {
-                inside = omega arith;
-                small = p.small;
-                long = ap length y ∙ placed_long 8 words s.count (row_words row) (eight row) (omega arith) ∙ l;
-                rows = w.rows ++ (row ∷ []);
-                counted = length-append w.rows (row ∷ []) ∙ rw (p.count, n);
-                stored = y ∙ rw (← n, w.stored) (store_row lent w.rows row);
-                so_far = at_row ∙ rw (passes_on z);
-              }
+            pub row_taken : {new : List ℕ} → new ≡ placed 8 words s.count (row_words row) → Loading text lent new (scanned t D) (end + 1)
+            unfolding go_on
+            row_taken {new} y =
+                let p = passed_counts row (scanned t D) w.small passes_on in
+                let m = p.room in
+                let n = w.counted in
+                let l = w.long in
+                record {
+                  inside = omega arith;
+                  small = p.small;
+                  long = ap length y ∙ placed_long 8 words s.count (row_words row) (eight row) (omega arith) ∙ l;
+                  rows = w.rows ++ (row ∷ []);
+                  counted = length-append w.rows (row ∷ []) ∙ rw (p.count, n);
+                  stored = y ∙ rw (← n, w.stored) (store_row lent w.rows row);
+                  so_far = at_row ∙ rw passes_on;
+                }

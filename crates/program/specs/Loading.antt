@@ -1,8 +1,9 @@
 -- What a load answers, and what it leaves in the lent program.
-use Rattle.std.specs.Prelude.{ℕ, ◌*◌, List, ◌++◌, length, drop}
+use Rattle.std.specs.Prelude.{ℕ, ◌*◌, List, ◌++◌, length, drop, Result, Ok, Err}
+use Rattle.model.specs.declared.refusal.LoadError.{LoadError}
+use Rattle.model.specs.Refusals.{number_of}
 use Rattle.model.specs.Load as Load
 use Rattle.model.specs.Load.{load, loaded, refused}
-use Rattle.program.specs.declared.Loaded.{Loaded}
 use Rattle.program.specs.Rows.{words_of}
 
 -- number 0 and the number of rows, or a refusal's number and line; and the lent program afterwards
@@ -21,8 +22,9 @@ unfoldable pub loading : List ℕ → List ℕ → Answer
 loading text lent = answer_of lent (load text)
 
 -- what is seen of a load: its answer and the lent program afterwards
-unfoldable pub seen : Loaded → List ℕ → Answer
-seen r program = record { number = r.number; line = r.line; rows = r.rows; program = program }
+unfoldable pub seen : Result ℕ LoadError → List ℕ → Answer
+seen (Ok rows) program = record { number = 0; line = 0; rows = rows; program = program }
+seen (Err e) program = record { number = number_of e.refusal; line = e.line; rows = 0; program = program }
 
 unfoldable pub opened : Unit {0}
 unfolding answer_of loading seen

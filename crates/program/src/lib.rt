@@ -4,11 +4,11 @@
 ghost use Rattle.std.specs.Prelude.{◌≡◌, true, ◌+◌, ◌*◌, ◌%◌, ◌≤◌, length};
 ghost use Rattle.table.specs.Rows.{placed};
 ghost use Rattle.program.specs.Rows.{row_at, row_words, program_formed};
+ghost use Rattle.model.specs.declared.refusal.Refusal.TheVariants.{Layout};
 ghost use Rattle.program.specs.Loading.{seen, loading};
 
-use model::Row;
+use model::{LoadError, Refusal, Row};
 use rows::quick;
-use text::Line;
 
 // Row k of a program.
 pub fn row_at(words: &[u32], k: usize) -> Row
@@ -36,50 +36,43 @@ fn passes_quickly(program: &[u32]) -> bool
     if 512 < n {
         return false;
     }
-    let mut s = quick::at_first();
+    let mut place = quick::at_first();
     let mut valued = [0u8; 9];
     let mut ceilings = [0u8; 256];
-    let mut k: usize = 0;
-    while k < n {
+    for k in 0..n {
         let r = row_at(program, k);
-        let q = quick::quick_row(s, &mut valued, &mut ceilings, r);
-        if !q.sure {
+        let Some(next) = quick::quick_row(place, &mut valued, &mut ceilings, r) else {
             return false;
-        }
-        let place = q.place;
-        s = place;
-        k += 1;
+        };
+        place = next;
     }
-    !quick::lacking(s)
+    !quick::lacking(place)
 }
 
 // The exact test, row by row.
+#[tactic(auto, using(crate::proofs::Checks::check_laws))]
 fn passes(program: &[u32]) -> bool
     requires { length program.now % 8 ≡ 0 }
     ensures { result ≡ program_formed program.now }
 {
-    let n = program.len() / 8;
-    let mut s = rows::at_first();
+    let mut scan = rows::at_first();
     let mut ceilings = [0u8; 256];
-    let mut k: usize = 0;
-    while k < n {
+    for k in 0..program.len() / 8 {
         let r = row_at(program, k);
         if !rows::in_range(r) {
             return false;
         }
-        let v = rows::take_row(s, &mut ceilings, r);
-        if v.number != 0 {
+        let Ok(next) = rows::take_row(scan, &mut ceilings, r) else {
             return false;
-        }
-        let scan = v.scan;
-        s = scan;
-        k += 1;
+        };
+        scan = next;
     }
-    !rows::lacking(s)
+    !rows::lacking(scan)
 }
 
 // "A program is well formed when some text loads to it": refusal 1 of a program. What the quick way leaves open is tested exactly, so that
 // a program that is refused is read twice.
+#[tactic(auto, using(crate::proofs::Checks::broken))]
 pub fn well_formed(program: &[u32]) -> bool
     ensures { result ≡ program_formed program.now }
 {
@@ -92,32 +85,18 @@ pub fn well_formed(program: &[u32]) -> bool
     passes(program)
 }
 
-// Accepted (number 0) with this many rows, or refused with this number and line.
-#[derive(Clone, Copy)]
-pub struct Loaded {
-    pub number: u32,
-    pub line: u32,
-    pub rows: u32,
-}
-
-fn refused(number: u32, line: u32) -> Loaded
-    ensures { (result.number ≡ number) × (result.line ≡ line) × (result.rows ≡ 0) }
+// "text not as laid out"
+fn unreadable(line: u32) -> LoadError
+    ensures { (result.refusal ≡ Layout) × (result.line ≡ line) }
 {
-    Loaded {
-        number,
+    LoadError {
+        refusal: Refusal::Layout,
         line,
-        rows: 0,
     }
 }
 
-// The lent words by value: of an array that a call returns the length is known.
-fn copied(words: &[u32; 4096]) -> [u32; 4096]
-    ensures { result ≡ words.now }
-{
-    *words
-}
-
 // Row k becomes r.
+#[tactic(auto, unfolding(crate::specs::Rows::row_words))]
 fn put_row(words: &mut [u32; 4096], k: usize, r: Row)
     requires { k * 8 + 8 ≤ 4096 }
     ensures { words.new ≡ placed 8 words.old k (row_words r) }
@@ -126,46 +105,37 @@ fn put_row(words: &mut [u32; 4096], k: usize, r: Row)
     table::write(words, 8, k, &numbers);
 }
 
-// "Load tests lines in order": the program of a text, or the first refusal.
-pub fn load(text: &[u8], program: &mut [u32; 4096]) -> Loaded
+// "Load tests lines in order": the program of a text and how many rows it has, or the first refusal.
+pub fn load(text: &[u8], program: &mut [u32; 4096]) -> Result<u32, LoadError>
     ensures { seen result program.new ≡ loading text.now program.old }
 {
     let first = text::newline(text, 0);
-    if text.len() <= first {
-        return refused(2, 1);
+    if text.len() <= first || !text::is_names(&text[..first]) {
+        return Err(unreadable(1));
     }
-    if !text::is_names(&text[..first]) {
-        return refused(2, 1);
-    }
-    let mut words = copied(program);
-    let mut s = rows::at_first();
+    let mut words = *program;
+    let mut scan = rows::at_first();
     let mut ceilings = [0u8; 256];
     let mut at = first + 1;
     while at < text.len() {
         let end = text::newline(text, at);
         if text.len() <= end {
-            return refused(2, s.count + 2);
+            return Err(unreadable(scan.count + 2));
         }
-        let Line::Whole(row) = text::read_row(&text[at..end]) else {
-            return refused(2, s.count + 2);
+        let Some(row) = text::read_row(&text[at..end]) else {
+            return Err(unreadable(scan.count + 2));
         };
-        let v = rows::take_row(s, &mut ceilings, row);
-        if v.number != 0 {
-            return refused(v.number, v.line);
-        }
-        let n = s.count as usize;
-        put_row(&mut words, n, row);
-        let scan = v.scan;
-        s = scan;
+        let next = rows::take_row(scan, &mut ceilings, row)?;
+        put_row(&mut words, scan.count as usize, row);
+        scan = next;
         at = end + 1;
     }
-    if rows::lacking(s) {
-        return refused(3, s.count + 1);
+    if rows::lacking(scan) {
+        return Err(LoadError {
+            refusal: Refusal::Row,
+            line: scan.count + 1,
+        });
     }
     *program = words;
-    Loaded {
-        number: 0,
-        line: 0,
-        rows: s.count,
-    }
+    Ok(scan.count)
 }

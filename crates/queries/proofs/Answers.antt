@@ -1,5 +1,5 @@
 -- The answers of a row by number are the model's, in its order; and a row that is closed leaves everything as it was.
-use Rattle.std.specs.Prelude.{if◌then◌else◌}
+use Rattle.std.specs.Prelude.{Option, Some, None, is_some, if◌then◌else◌}
 use mathlib.Core.Path.{◌≡◌, refl, sym, ap, ◌∙◌, subst}
 use mathlib.Core.Bool.{Bool, true, false, not, ◌||◌, and-eq-true_iff}
 use mathlib.Core.Logic.{◌≢◌}
@@ -23,8 +23,8 @@ use Rattle.model.specs.Matching.{Candidate, candidate, atom_candidates, justific
 use Rattle.state.specs.declared.Scalars.{Scalars}
 use Rattle.state.specs.View.{atom_at, plan_at, config_of}
 use Rattle.queries.specs.declared.Columns.{Columns}
-use Rattle.queries.specs.View.{found_in, Kept, candidate_of}
-use Rattle.queries.specs.Answers.{taken, tried, atom_candidate, justification_candidate, count_of, candidate_at, fit_at, hits, answers, width, given_ids, onward, settled, closed}
+use Rattle.queries.specs.View.{found_in, room, Kept, candidate_of}
+use Rattle.queries.specs.Answers.{taken, tried, atom_candidate, justification_candidate, count_of, candidate_at, fit_at, hits, answers, width, given_ids, onward, Next, settled, closed}
 use Rattle.queries.proofs.Laws.{justifications_few}
 
 module _ (words : List ℕ) (s : Scalars) (r : Row) (f : Found) (c : ℕ) where
@@ -40,7 +40,7 @@ module _ (words : List ℕ) (s : Scalars) (r : Row) (f : Found) (c : ℕ) where
   hits_skip h e = hits_step h ∙ ap (λ (l : List Found). l ++ hits words s r f (c + 1)) e
 
   -- candidate c does not fit; it does
-  module _ (h : c < count_of s r) (x : Columns) (is : candidate_of x ≡ candidate_at words s r c) (fits : Bool) (g : Found) (e : when fits g ≡ tried r x f) where
+  module _ (h : c < count_of s r) (x : Option Columns) (is : candidate_of x ≡ candidate_at words s r c) (fits : Bool) (g : Found) (e : when fits g ≡ tried r x f) where
     fit_is : when fits g ≡ fit_at words s r f c
     unfolding tried fit_at
     fit_is = e ∙ ap (λ (l : List Candidate). bind l (λ k. taken r k f)) is
@@ -52,12 +52,17 @@ module _ (words : List ℕ) (s : Scalars) (r : Row) (f : Found) (c : ℕ) where
     hits_one n = hits_step h ∙ ap (λ (l : List Found). l ++ hits words s r f (c + 1)) (sym fit_is ∙ ap (λ (b : Bool). when b g) n)
 
 -- an answer with what comes after it: there is none, or there is
-module _ (rest : ℕ → List Found) (f : Found) (n : ℕ) where
-  pub onward_none : n ≡ 0 → onward rest f n ≡ []
-  onward_none e = ap (λ (b : Bool). if b then [] else f ∷ rest n) (eq-eqb n 0 e)
+pub none_is : (n : Option ℕ) → is_some n ≡ false → n ≡ None
+none_is None e = refl
+none_is (Some k) e = clash refl e
 
-  pub onward_one : n ≢ 0 → onward rest f n ≡ f ∷ rest n
-  onward_one e = ap (λ (b : Bool). if b then [] else f ∷ rest n) (ne_eqb n 0 e)
+onward_none : (rest : ℕ → List Found) (f : Found) (n : Option ℕ) → is_some n ≡ false → onward rest f n ≡ []
+onward_none rest f None e = refl
+onward_none rest f (Some k) e = clash refl e
+
+is_empty_onward : (rest : ℕ → List Found) (f : Found) (n : Option ℕ) → is_some n ≡ true → is_empty (onward rest f n) ≡ false
+is_empty_onward rest f None e = clash e refl
+is_empty_onward rest f (Some k) e = refl
 
 -- a negation has one answer at most, and it adds no id
 module _ (r : Row) (z : r.op % 2 ≡ 0) where
@@ -68,6 +73,31 @@ module _ (r : Row) (z : r.op % 2 ≡ 0) where
   pub found_still : (v u m l : List ℕ) (n : ℕ) → u ≡ v → Kept n m l → ◌≡◌ {A = Found} (found_in v m n) (found_in u l (n + given_ids r))
   unfolding given_ids
   found_still v u m l n e k = rw (eq-eqb (r.op % 2) 0 z, add-zero n, k, e)
+
+-- the answers of a query are the candidates that fit
+module _ (r : Row) (odd : r.op % 2 ≡ 1) where
+  asks : negation r ≡ false
+  asks = ne_eqb (r.op % 2) 0 (λ z. absurd (omega (arith, z, odd)))
+
+  answers_hits : (words : List ℕ) (s : Scalars) (f : Found) (c : ℕ) → answers words s r f c ≡ hits words s r f c
+  unfolding answers
+  answers_hits words s f c = rw asks
+
+  wide : (s : Scalars) → width s r ≡ count_of s r
+  unfolding width
+  wide s = rw asks
+
+  given : (n : ℕ) → n + given_ids r ≡ room r n
+  unfolding given_ids
+  given n = rw asks
+
+  pub query_next : (words : List ℕ) (s : Scalars) (f : Found) (c : ℕ) (v m : List ℕ) (n : ℕ) (k : Option ℕ) → Next (hits words s r f) c (count_of s r) (found_in v m (room r n)) k →
+      Next (answers words s r f) c (width s r) (found_in v m (n + given_ids r)) k
+  query_next words s f c v m n None e = record { is = answers_hits words s f c ∙ e.is; further = tt }
+  query_next words s f c v m n (Some k) e = record {
+    is = answers_hits words s f c ∙ e.is ∙ cc (answers_hits words s f k, given n);
+    further = rw (wide s) e.further;
+  }
 
 -- a row adds an id at most if it is a reason
 pub ids_few : (r : Row) → given_ids r ≤ bit (eqb r.part 1)
@@ -88,16 +118,16 @@ module _ (words : List ℕ) (s : Scalars) (r : Row) (f : Found) (z : r.op % 2 �
   unfolding answers
   negation_later c n = rw (eq-eqb (r.op % 2) 0 z, ne_eqb c 0 n)
 
-  module _ (g : Found) (n : ℕ) (is : hits words s r f 0 ≡ onward (hits words s r f) g n) where
+  module _ (g : Found) (n : Option ℕ) (is : hits words s r f 0 ≡ onward (hits words s r f) g n) where
     -- no candidate fits
-    pub negation_holds : n ≡ 0 → answers words s r f 0 ≡ f ∷ answers words s r f 1
+    pub negation_holds : is_some n ≡ false → answers words s r f 0 ≡ f ∷ answers words s r f 1
     negation_holds e =
         denied ∙ ap (λ (l : List Found). when (is_empty l) f) (is ∙ onward_none (hits words s r f) g n e)
         ∙ ap {B = List Found} (λ (l : List Found). f ∷ l) (sym (negation_later 1 (λ q. absurd (omega (arith, q)))))
 
     -- one does
-    pub negation_fails : n ≢ 0 → answers words s r f 0 ≡ []
-    negation_fails e = denied ∙ ap (λ (l : List Found). when (is_empty l) f) (is ∙ onward_one (hits words s r f) g n e)
+    pub negation_fails : is_some n ≡ true → answers words s r f 0 ≡ []
+    negation_fails e = denied ∙ ap (λ (b : Bool). when b f) (ap is_empty is ∙ is_empty_onward (hits words s r f) g n e)
 
 -- a choice between two kinds of candidates, each by number
 either : {A : Type 0} (b : Bool) (X Y : List A) (f g : ℕ → List A) (n m : ℕ) → X ≡ bind (count_up 0 n) f → Y ≡ bind (count_up 0 m) g →

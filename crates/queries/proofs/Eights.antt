@@ -1,5 +1,5 @@
 -- Atoms that are passed over by their columns.
-use Rattle.std.specs.Prelude.{if◌then◌else◌}
+use Rattle.std.specs.Prelude.{Option, Some, None}
 use mathlib.Core.Path.{◌≡◌, refl, sym, ap, ◌∙◌, subst}
 use mathlib.Core.Bool.{Bool, true, false, not, ◌&&◌, false≢true}
 use mathlib.Core.List.{List}
@@ -10,7 +10,6 @@ use lib.ListN.{get_or}
 use borrow.Author.Tests.{ltb-true, ltb-false}
 use Rattle.model.specs.Matching.{candidate}
 use Rattle.state.specs.View.{atom_p, atom_a, atom_b, atom_at}
-use Rattle.queries.specs.declared.Wanted.{Wanted}
 use Rattle.queries.specs.View.{unlike, column_of, sought_of, stands_at, Without}
 use Rattle.queries.specs.Answers.{atom_candidate, Missed, Skipped}
 use Rattle.queries.proofs.Skips.{missed_absent, missed_second, missed_third}
@@ -31,17 +30,14 @@ module _ (W : List ℕ) (p y v z w from : ℕ) where
   without_one c s e = without_to c (c + 1) s (omega arith) (λ k q r. let h : c ≡ k = omega arith in subst (λ (n : ℕ). stands_at W p y v z w n ≡ false) h e)
 
 -- an atom that does not stand so is missed
-module _ (W : List ℕ) (p : ℕ) (i a b : Wanted) where
+module _ (W : List ℕ) (p : ℕ) (i a b : Option ℕ) where
   pub not_standing : (c : ℕ) → stands_at W p (column_of a atom_a) (sought_of a p) (column_of b atom_b) (sought_of b p) c ≡ false → Missed i a b (atom_candidate p (atom_at W c))
   unfolding atom_at
   not_standing c e = first (eqb (get_or W (atom_p + c) 0) p) refl
     where
-      unlike_of : (x : Wanted) (at : ℕ) → eqb (get_or W (atom_p + c) 0) p ≡ true → eqb (get_or W (column_of x at + c) 0) (sought_of x p) ≡ false → unlike x (get_or W (at + c) 0) ≡ true
-      unlike_of x at h g = known x.known g
-        where
-          known : (t : Bool) → eqb (get_or W ((if t then at else atom_p) + c) 0) (if t then x.number else p) ≡ false → (t && not (eqb (get_or W (at + c) 0) x.number)) ≡ true
-          known true q = ap not q
-          known false q = absurd (false≢true (sym q ∙ h))
+      unlike_of : (x : Option ℕ) (at : ℕ) → eqb (get_or W (atom_p + c) 0) p ≡ true → eqb (get_or W (column_of x at + c) 0) (sought_of x p) ≡ false → unlike x (get_or W (at + c) 0) ≡ true
+      unlike_of None at h q = absurd (false≢true (sym q ∙ h))
+      unlike_of (Some m) at h q = ap not q
 
       third : (t : Bool) → eqb (get_or W (column_of a atom_a + c) 0) (sought_of a p) ≡ t → eqb (get_or W (atom_p + c) 0) p ≡ true → (t && eqb (get_or W (column_of b atom_b + c) 0) (sought_of b p)) ≡ false → Missed i a b (atom_candidate p (atom_at W c))
       third false q h g = missed_second i a b (eqb (get_or W (atom_p + c) 0) p) (get_or W c 0) (get_or W (atom_a + c) 0) (get_or W (atom_b + c) 0) (unlike_of a atom_a h q)

@@ -1,4 +1,6 @@
 -- How the code's answer, found or not, follows the lists of the model.
+use Rattle.std.specs.Prelude.{Option, Some, None}
+use Rattle.std.specs.Bool.{then_some}
 use mathlib.Core.Path.{◌≡◌, refl, sym, ap, ◌∙◌}
 use mathlib.Core.Bool.{Bool, true, false}
 use mathlib.Core.Logic.{◌≢◌}
@@ -21,7 +23,7 @@ use Rattle.state.specs.View.{plan_at}
 use Rattle.model.specs.Configuration.{has_flag}
 use Rattle.model.specs.Matching.{Candidate, candidate, Found, found, fit}
 use Rattle.queries.specs.declared.Columns.{Columns}
-use Rattle.queries.specs.View.{room, Kept}
+use Rattle.queries.specs.View.{candidate_of, room, Kept}
 use Rattle.queries.specs.Answers.{taken, tried}
 
 -- one operand after the other
@@ -58,16 +60,23 @@ module _ (met : Bool) (values : List ℕ) where
     unfolding found
     taken_reason h p l q = rw q (rw (eq-eqb r.part 1 p) at (taken_one h))
 
--- a candidate that is not there, and one that is
-module _ (r : Row) (x : Columns) (f : Found) where
-  pub tried_absent : x.there ≡ false → [] ≡ tried r x f
-  unfolding tried
-  tried_absent h = sym (ap (λ (b : Bool). bind (when b (candidate x.i x.a x.b)) (λ k. taken r k f)) h)
+-- a candidate that is there if a test says so
+pub there_if : (b : Bool) (x : Columns) (o : Option Columns) → o ≡ then_some b x → candidate_of o ≡ when b (candidate x.i x.a x.b)
+there_if b x o e = ap candidate_of e ∙ at b
+  where
+    at : (b : Bool) → candidate_of (then_some b x) ≡ when b (candidate x.i x.a x.b)
+    at true = refl
+    at false = refl
 
-  pub tried_there : x.there ≡ true → taken r (candidate x.i x.a x.b) f ≡ tried r x f
+-- a candidate that is not there, and one that is
+module _ (r : Row) (f : Found) where
+  pub tried_absent : [] ≡ tried r None f
   unfolding tried
-  tried_there h =
-      sym (append-nil (taken r (candidate x.i x.a x.b) f)) ∙ sym (ap (λ (b : Bool). bind (when b (candidate x.i x.a x.b)) (λ k. taken r k f)) h)
+  tried_absent = refl
+
+  pub tried_there : (x : Columns) → taken r (candidate x.i x.a x.b) f ≡ tried r (Some x) f
+  unfolding tried
+  tried_there x = sym (append-nil (taken r (candidate x.i x.a x.b) f))
 
 -- one id more is matched, or none
 pub one_more : (l : List ℕ) (n i : ℕ) → n < length l → take (n + 1) (set l n i) ≡ take n l ++ (i ∷ [])

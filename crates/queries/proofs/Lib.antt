@@ -5,3 +5,4 @@ pub mod Answers
 pub mod Skips
 pub mod Halves
 pub mod Leaps
+pub mod Seeking

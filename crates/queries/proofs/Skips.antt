@@ -1,5 +1,6 @@
 -- Candidates that are passed over: none of them fits, so what a row gives from the first of them on is what it gives behind the last.
-use mathlib.Core.Path.{◌≡◌, refl, sym, ap, ◌∙◌, subst}
+use Rattle.std.specs.Prelude.{Option, Some, None}
+use mathlib.Core.Path.{◌≡◌, refl, sym, ap, ap₂, ◌∙◌, subst}
 use mathlib.Core.Bool.{Bool, true, false, not, ◌&&◌, ◌||◌, and-eq-true_iff, false≢true}
 use mathlib.Core.List.{List, [], ◌++◌, map}
 use Prim.Native.Nat.{ℕ, zero, suc, ◌+◌, ◌-◌, ◌*◌, ◌/◌, ◌%◌, ◌≤◌, ◌<◌}
@@ -16,14 +17,13 @@ use Rattle.model.specs.Matching.{Candidate, candidate, Found, found}
 use Rattle.state.specs.declared.Scalars.{Scalars}
 use Rattle.state.specs.View.{atom_at, plan_at}
 use Rattle.queries.specs.declared.Columns.{Columns}
-use Rattle.queries.specs.declared.Wanted.{Wanted}
 use Rattle.queries.specs.View.{candidate_of, Wants, unlike, is_unlike, is_like, lacks}
 use Rattle.queries.specs.Answers.{taken, atom_candidate, plan_candidate, justification_candidate, count_of, candidate_at, fit_at, hits, Missed, Skipped}
 use Rattle.queries.proofs.Unlike.{unlike_fits_not}
 use Rattle.queries.proofs.Answers.{hits_end, hits_skip}
 
 -- a candidate that is not there; one with a column that is not the number wanted there; one that is not like what is wanted
-module _ (i a b : Wanted) where
+module _ (i a b : Option ℕ) where
   pub missed_absent : (t : Bool) (k : Candidate) → t ≡ false → Missed i a b (when t k)
   missed_absent t k e = record { none = λ r f wi wa wb. ap (λ (v : Bool). bind (when v k) (λ x. taken r x f)) e }
 
@@ -36,35 +36,20 @@ module _ (i a b : Wanted) where
   missed_column true x e = record { none = λ r f wi wa wb. ap (λ (l : List Found). l ++ []) (unlike_taken x e r f wi wa wb) }
 
   pub missed_id : (t : Bool) (k m n : ℕ) → unlike i k ≡ true → Missed i a b (when t (candidate k m n))
-  missed_id t k m n e = missed_column t (record { i = k; a = m; b = n; there = t }) (or_left _ e)
+  missed_id t k m n e = missed_column t (record { i = k; a = m; b = n }) (or_left _ e)
 
   pub missed_second : (t : Bool) (k m n : ℕ) → unlike a m ≡ true → Missed i a b (when t (candidate k m n))
-  missed_second t k m n e = missed_column t (record { i = k; a = m; b = n; there = t }) (or_right (unlike i k) (or_left _ e))
+  missed_second t k m n e = missed_column t (record { i = k; a = m; b = n }) (or_right (unlike i k) (or_left _ e))
 
   pub missed_third : (t : Bool) (k m n : ℕ) → unlike b n ≡ true → Missed i a b (when t (candidate k m n))
-  missed_third t k m n e = missed_column t (record { i = k; a = m; b = n; there = t }) (or_right (unlike i k) (or_right (unlike a m) e))
+  missed_third t k m n e = missed_column t (record { i = k; a = m; b = n }) (or_right (unlike i k) (or_right (unlike a m) e))
 
-  pub missed_unlike : (x : Columns) (l : List Candidate) → candidate_of x ≡ l → is_like i a b x ≡ false → Missed i a b l
-  missed_unlike x l is e = subst (Missed i a b) is (at x.there e)
-    where
-      at : (t : Bool) → (t && not (is_unlike i a b x)) ≡ false → Missed i a b (when t (candidate x.i x.a x.b))
-      at false h = missed_absent false (candidate x.i x.a x.b) refl
-      at true h = missed_column true x (not-false _ h)
-
--- a candidate that is like what is wanted, test by test
-pub not_like : (i a b : Wanted) (x : Columns) → is_unlike i a b x ≡ true → false ≡ is_like i a b x
-not_like i a b x e = at x.there
-  where
-    at : (t : Bool) → false ≡ (t && not (is_unlike i a b x))
-    at true = sym (ap not e)
-    at false = refl
-
-pub like_last : (t i a b : Bool) → t ≡ true → a ≡ false → b ≡ false → not i ≡ (t && not (i || (a || b)))
-like_last t true a b e f g = rw e
-like_last t false a b e f g = rw (e, f, g)
+  missed_unlike : (x : Option Columns) → is_like i a b x ≡ false → Missed i a b (candidate_of x)
+  missed_unlike None e = missed_absent false (candidate 0 0 0) refl
+  missed_unlike (Some x) e = missed_column true x (not-false _ e)
 
 -- each of four
-lacking : (a : Wanted) (l : List ℕ) → lacks a l ≡ true → (j : ℕ) → j < 4 → unlike a (get_or l j 0) ≡ true
+lacking : (a : Option ℕ) (l : List ℕ) → lacks a l ≡ true → (j : ℕ) → j < 4 → unlike a (get_or l j 0) ≡ true
 lacking a l e = at
   where
     both : ((unlike a (get_or l 0 0) && unlike a (get_or l 1 0)) ≡ true) × ((unlike a (get_or l 2 0) && unlike a (get_or l 3 0)) ≡ true)
@@ -83,37 +68,41 @@ lacking a l e = at
     at (suc (suc (suc zero))) h = high.1
     at (suc (suc (suc (suc j)))) h = absurd (omega arith)
 
--- the justifications of the plan of candidate c: the plan is another, it has no such atom, there is none, or it is another
-module _ (words : List ℕ) (i a b : Wanted) (c : ℕ) where
-  pub other_plan : (id : ℕ) → id ≡ (plan_at words (c / 4)).id → unlike i id ≡ true → (k : ℕ) → c ≤ k → k < c / 4 * 4 + 4 → Missed i a b (justification_candidate (plan_at words (k / 4)) (k % 4))
-  other_plan id is e k p q =
-      let h : c / 4 ≡ k / 4 = omega arith in
-      let o : id ≡ (plan_at words (k / 4)).id = is ∙ ap (λ (n : ℕ). (plan_at words n).id) h in
-      missed_id i a b (ltb (k % 4) (length (plan_at words (k / 4)).justifications)) (plan_at words (k / 4)).id (get_or (plan_at words (k / 4)).justifications (k % 4) 0) 0 (ap (unlike i) (sym o) ∙ e)
+-- the four numbers of plan k: the plan is another, it has no such atom, it has no justification there, or another atom
+module _ (words : List ℕ) (i a b : Option ℕ) (k : ℕ) where
+  pub other_plan : (id : ℕ) → id ≡ (plan_at words k).id → unlike i id ≡ true → (c : ℕ) → k * 4 ≤ c → c < k * 4 + 4 → Missed i a b (justification_candidate (plan_at words (c / 4)) (c % 4))
+  other_plan id is e c p q =
+      let h : k ≡ c / 4 = omega arith in
+      let o : id ≡ (plan_at words (c / 4)).id = is ∙ ap (λ (n : ℕ). (plan_at words n).id) h in
+      missed_id i a b (ltb (c % 4) (length (plan_at words (c / 4)).justifications)) (plan_at words (c / 4)).id (get_or (plan_at words (c / 4)).justifications (c % 4) 0) 0 (ap (unlike i) (sym o) ∙ e)
 
-  pub no_such_atom : (n : Bool) → n ≡ lacks a (plan_at words (c / 4)).justifications → n ≡ true → (k : ℕ) → c ≤ k → k < c / 4 * 4 + 4 → Missed i a b (justification_candidate (plan_at words (k / 4)) (k % 4))
-  no_such_atom n is e k p q =
-      let h : c / 4 ≡ k / 4 = omega arith in
-      let g : k % 4 < 4 = omega arith in
-      let o : lacks a (plan_at words (k / 4)).justifications ≡ true = subst (λ (m : ℕ). lacks a (plan_at words m).justifications ≡ true) h (sym is ∙ e) in
-      missed_second i a b (ltb (k % 4) (length (plan_at words (k / 4)).justifications)) (plan_at words (k / 4)).id (get_or (plan_at words (k / 4)).justifications (k % 4) 0) 0 (lacking a (plan_at words (k / 4)).justifications o (k % 4) g)
+  pub no_such_atom : (n : Bool) → n ≡ lacks a (plan_at words k).justifications → n ≡ true → (c : ℕ) → k * 4 ≤ c → c < k * 4 + 4 → Missed i a b (justification_candidate (plan_at words (c / 4)) (c % 4))
+  no_such_atom n is e c p q =
+      let h : k ≡ c / 4 = omega arith in
+      let g : c % 4 < 4 = omega arith in
+      let o : lacks a (plan_at words (c / 4)).justifications ≡ true = subst (λ (m : ℕ). lacks a (plan_at words m).justifications ≡ true) h (sym is ∙ e) in
+      missed_second i a b (ltb (c % 4) (length (plan_at words (c / 4)).justifications)) (plan_at words (c / 4)).id (get_or (plan_at words (c / 4)).justifications (c % 4) 0) 0 (lacking a (plan_at words (c / 4)).justifications o (c % 4) g)
 
-  pub past_last : (n : ℕ) → n ≡ length (plan_at words (c / 4)).justifications → n ≤ c % 4 → (k : ℕ) → c ≤ k → k < c / 4 * 4 + 4 → Missed i a b (justification_candidate (plan_at words (k / 4)) (k % 4))
-  past_last n is e k p q =
-      let h : c / 4 ≡ k / 4 = omega arith in
-      let o : n ≡ length (plan_at words (k / 4)).justifications = is ∙ ap (λ (m : ℕ). length (plan_at words m).justifications) h in
-      let g : length (plan_at words (k / 4)).justifications ≤ k % 4 = omega arith in
-      missed_absent i a b (ltb (k % 4) (length (plan_at words (k / 4)).justifications)) (candidate (plan_at words (k / 4)).id (get_or (plan_at words (k / 4)).justifications (k % 4) 0) 0) (le-ltb (k % 4) (length (plan_at words (k / 4)).justifications) g)
+  pub past_last : (n : ℕ) → n ≡ length (plan_at words k).justifications → (c : ℕ) → k * 4 + n ≤ c → c < k * 4 + 4 → Missed i a b (justification_candidate (plan_at words (c / 4)) (c % 4))
+  past_last n is c p q =
+      let h : k ≡ c / 4 = omega arith in
+      let o : n ≡ length (plan_at words (c / 4)).justifications = is ∙ ap (λ (m : ℕ). length (plan_at words m).justifications) h in
+      let g : length (plan_at words (c / 4)).justifications ≤ c % 4 = omega arith in
+      missed_absent i a b (ltb (c % 4) (length (plan_at words (c / 4)).justifications)) (candidate (plan_at words (c / 4)).id (get_or (plan_at words (c / 4)).justifications (c % 4) 0) 0) (le-ltb (c % 4) (length (plan_at words (c / 4)).justifications) g)
 
-  pub other_atom : (n : ℕ) → n ≡ get_or (plan_at words (c / 4)).justifications (c % 4) 0 → unlike a n ≡ true → Missed i a b (justification_candidate (plan_at words (c / 4)) (c % 4))
-  other_atom n is e = missed_second i a b (ltb (c % 4) (length (plan_at words (c / 4)).justifications)) (plan_at words (c / 4)).id (get_or (plan_at words (c / 4)).justifications (c % 4) 0) 0 (ap (unlike a) (sym is) ∙ e)
+  pub other_atom : (j n : ℕ) → j < 4 → n ≡ get_or (plan_at words k).justifications j 0 → unlike a n ≡ true → (c : ℕ) → k * 4 + j ≤ c → c < k * 4 + j + 1 → Missed i a b (justification_candidate (plan_at words (c / 4)) (c % 4))
+  other_atom j n h is e c p q =
+      let x : k ≡ c / 4 = omega arith in
+      let y : j ≡ c % 4 = omega arith in
+      let o : n ≡ get_or (plan_at words (c / 4)).justifications (c % 4) 0 = is ∙ ap₂ (λ (k j : ℕ). get_or (plan_at words k).justifications j 0) x y in
+      missed_second i a b (ltb (c % 4) (length (plan_at words (c / 4)).justifications)) (plan_at words (c / 4)).id (get_or (plan_at words (c / 4)).justifications (c % 4) 0) 0 (ap (unlike a) (sym o) ∙ e)
 
 -- the same candidates by another name
-pub skip_as : {l m : ℕ → List Candidate} {i a b : Wanted} {from to : ℕ} → Skipped l i a b from to → ((c : ℕ) → l c ≡ m c) → Skipped m i a b from to
+pub skip_as : {l m : ℕ → List Candidate} {i a b : Option ℕ} {from to : ℕ} → Skipped l i a b from to → ((c : ℕ) → l c ≡ m c) → Skipped m i a b from to
 skip_as {i = i} {a = a} {b = b} s e = record { on = s.on; missed = λ c p q. subst (Missed i a b) (e c) (s.missed c p q) }
 
 -- further and further
-module _ (l : ℕ → List Candidate) (i a b : Wanted) (from : ℕ) where
+module _ (l : ℕ → List Candidate) (i a b : Option ℕ) (from : ℕ) where
   pub skip_none : Skipped l i a b from from
   skip_none = record { on = omega arith; missed = λ c h k. absurd (omega arith) }
 
@@ -126,6 +115,11 @@ module _ (l : ℕ → List Candidate) (i a b : Wanted) (from : ℕ) where
 
   pub skip_one : (c : ℕ) → Skipped l i a b from c → Missed i a b (l c) → Skipped l i a b from (c + 1)
   skip_one c s m = skip_to c (c + 1) s (omega arith) (λ k p q. let e : c ≡ k = omega arith in subst (λ (n : ℕ). Missed i a b (l n)) e m)
+
+-- candidates that were asked one by one, each unlike what is wanted
+pub skipped_by : {l : ℕ → List Candidate} {i a b : Option ℕ} {from to : ℕ} {P : ℕ → Option Columns → Type 0} → from ≤ to →
+    ((c : ℕ) → c < to → from ≤ c → (x : Option Columns) × P c x × (is_like i a b x ≡ false)) → ((c : ℕ) (x : Option Columns) → P c x → candidate_of x ≡ l c) → Skipped l i a b from to
+skipped_by {i = i} {a = a} {b = b} h f g = record { on = h; missed = λ c p q. let x = f c q p in subst (Missed i a b) (g c x.0 x.1) (missed_unlike i a b x.0 x.2) }
 
 -- what the row gives
 module _ (words : List ℕ) (s : Scalars) (r : Row) (f : Found) where
@@ -142,19 +136,16 @@ module _ (words : List ℕ) (s : Scalars) (r : Row) (f : Found) where
       let e : (c + 1) + d ≡ c + suc d = omega arith in
       hits_pass c (m c (omega arith) (omega arith)) ∙ hits_leap d (c + 1) (λ k p q. m k (omega arith) (omega arith)) ∙ ap (hits words s r f) e
 
-  pub hits_skipped : (i a b : Wanted) (from to : ℕ) → Wants i r.i f.values → Wants a r.a f.values → Wants b r.b f.values → Skipped (candidate_at words s r) i a b from to → hits words s r f from ≡ hits words s r f to
+  pub hits_skipped : (i a b : Option ℕ) (from to : ℕ) → Wants i r.i f.values → Wants a r.a f.values → Wants b r.b f.values → Skipped (candidate_at words s r) i a b from to → hits words s r f from ≡ hits words s r f to
   unfolding fit_at
   hits_skipped i a b from to wi wa wb k =
       let h = k.on in
       let e : from + (to - from) ≡ to = omega arith in
       hits_leap (to - from) from (λ c p q. (k.missed c p (omega arith)).none r f wi wa wb) ∙ ap (hits words s r f) e
 
--- no number is known
-abbrev pub unknown : Wanted
-unknown = record { number = 0; known = false }
-
-pub unknown_wants : (x : ℕ) (v : List ℕ) → Wants unknown x v
-unknown_wants x v = record { misses = λ e. absurd (false≢true e) }
+-- where no number is known, every number will do
+pub unknown_wants : (x : ℕ) (v : List ℕ) → Wants None x v
+unknown_wants x v = record { misses = tt }
 
 -- the candidates of a row that asks for an atom are the atoms
 module _ (s : Scalars) (r : Row) (h : 1 ≤ r.op) (k : r.op ≤ 2) where
@@ -169,10 +160,10 @@ module _ (s : Scalars) (r : Row) (h : 1 ≤ r.op) (k : r.op ≤ 2) where
   unfolding candidate_at
   atom_at_number words c = rw asks_atoms
 
-  pub hits_past_atoms : (words : List ℕ) (f : Found) (a b : Wanted) (from to : ℕ) → Wants a r.a f.values → Wants b r.b f.values →
-      Skipped (λ c. atom_candidate r.p (atom_at words c)) unknown a b from to → hits words s r f from ≡ hits words s r f to
+  pub hits_past_atoms : (words : List ℕ) (f : Found) (a b : Option ℕ) (from to : ℕ) → Wants a r.a f.values → Wants b r.b f.values →
+      Skipped (λ c. atom_candidate r.p (atom_at words c)) None a b from to → hits words s r f from ≡ hits words s r f to
   hits_past_atoms words f a b from to wa wb m =
-      hits_skipped words s r f unknown a b from to (unknown_wants r.i f.values) wa wb (skip_as m (atom_at_number words))
+      hits_skipped words s r f None a b from to (unknown_wants r.i f.values) wa wb (skip_as m (atom_at_number words))
 
 -- those of a row that asks for a plan are the plans
 module _ (s : Scalars) (r : Row) (h : 3 ≤ r.op) (k : r.op ≤ 4) where

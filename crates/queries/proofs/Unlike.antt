@@ -1,7 +1,7 @@
 -- A candidate with a column that is not the number wanted there does not fit.
-use Rattle.std.specs.Prelude.{if◌then◌else◌}
+use Rattle.std.specs.Prelude.{Option, Some, None, if◌then◌else◌}
 use mathlib.Core.Path.{◌≡◌, refl, sym, ap, ◌∙◌}
-use mathlib.Core.Bool.{Bool, true, false, not, and-eq-true_iff}
+use mathlib.Core.Bool.{Bool, true, false, false≢true}
 use mathlib.Core.Logic.{⊎_elim}
 use mathlib.Core.List.{List, [], ◌∷◌, ◌++◌}
 use Prim.Native.Nat.{ℕ}
@@ -15,7 +15,6 @@ use Rattle.model.specs.declared.Row.{Row}
 use Rattle.model.specs.Program.{any?, constant?, constant}
 use Rattle.model.specs.Configuration.{no_value, place, value_of}
 use Rattle.model.specs.Matching.{candidate, meet, fit}
-use Rattle.queries.specs.declared.Wanted.{Wanted}
 use Rattle.queries.specs.declared.Columns.{Columns}
 use Rattle.queries.specs.View.{Grown, Wants, unlike, is_unlike}
 
@@ -46,11 +45,11 @@ bind_none : {A B : Type 0} (l : List A) (f : A → List B) → ((x : A) → In x
 bind_none [] f h = refl
 bind_none (x ∷ l) f h = ap (λ (m : List _). m ++ bind l f) (h x (first refl)) ∙ bind_none l f (λ y i. h y (later i))
 
-module _ (w : Wanted) (x : ℕ) (values : List ℕ) (a : Wants w x values) where
-  unlike_misses : (n : ℕ) → unlike w n ≡ true → (v : List ℕ) → Grown values v → meet x n v ≡ []
-  unlike_misses n e = let k = (and-eq-true_iff w.known (not (eqb n w.number))).0 e in a.misses k.0 n (eqb-false n w.number (not-true _ k.1))
+unlike_misses : (w : Option ℕ) (x : ℕ) (values : List ℕ) → Wants w x values → (n : ℕ) → unlike w n ≡ true → (v : List ℕ) → Grown values v → meet x n v ≡ []
+unlike_misses None x values a n e = absurd (false≢true e)
+unlike_misses (Some m) x values a n e = a.misses n (eqb-false n m (not-true _ e))
 
-pub unlike_fits_not : (r : Row) (values : List ℕ) (i a b : Wanted) → Wants i r.i values → Wants a r.a values → Wants b r.b values → (x : Columns) → is_unlike i a b x ≡ true → fit r (candidate x.i x.a x.b) values ≡ []
+pub unlike_fits_not : (r : Row) (values : List ℕ) (i a b : Option ℕ) → Wants i r.i values → Wants a r.a values → Wants b r.b values → (x : Columns) → is_unlike i a b x ≡ true → fit r (candidate x.i x.a x.b) values ≡ []
 unfolding fit
 unlike_fits_not r values i a b wi wa wb x e = ⊎_elim
     (λ h. ap (λ (l : List (List ℕ)). bind l (λ v. bind (meet r.a x.a v) (λ w. meet r.b x.b w))) (unlike_misses i r.i values wi x.i h values (λ y z. refl)))

@@ -1,5 +1,5 @@
 -- A row's candidates by number, and what the row gives from a number on.
-use Rattle.std.specs.Prelude.{◌≡◌, Bool, not, ◌&&◌, ◌||◌, ◌≢◌, List, [], ◌∷◌, map, ℕ, ◌+◌, ◌-◌, ◌*◌, ◌/◌, ◌%◌, ◌<◌, ◌≤◌, eqb, ltb, length, get_or, if◌then◌else◌}
+use Rattle.std.specs.Prelude.{◌≡◌, Bool, not, ◌&&◌, ◌||◌, ◌≢◌, List, [], ◌∷◌, map, ℕ, ◌+◌, ◌-◌, ◌*◌, ◌/◌, ◌%◌, ◌<◌, ◌≤◌, eqb, ltb, length, get_or, if◌then◌else◌, Option, Some, None, IfSome}
 use Rattle.lists.specs.Lists.{bit, within, when, is_empty, bind, count_up}
 use Rattle.model.specs.declared.Row.{Row}
 use Rattle.model.specs.declared.Atom.{Atom}
@@ -9,7 +9,6 @@ use Rattle.model.specs.Matching.{Candidate, candidate, Found, found, fit, negati
 use Rattle.state.specs.declared.Scalars.{Scalars}
 use Rattle.state.specs.View.{atom_at, plan_at}
 use Rattle.queries.specs.declared.Columns.{Columns}
-use Rattle.queries.specs.declared.Wanted.{Wanted}
 use Rattle.queries.specs.View.{candidate_of, Wants}
 
 -- what is found after a candidate
@@ -17,7 +16,7 @@ unfoldable pub taken : Row → Candidate → Found → List Found
 taken r k f = map (found r k f) (fit r k f.values)
 
 -- after a candidate that may not be there
-unfoldable pub tried : Row → Columns → Found → List Found
+unfoldable pub tried : Row → Option Columns → Found → List Found
 tried r x f = bind (candidate_of x) (λ k. taken r k f)
 
 -- what an atom, a plan gives as a candidate, by query
@@ -82,28 +81,29 @@ width s r = if negation r then 1 else count_of s r
 unfoldable pub given_ids : Row → ℕ
 given_ids r = if negation r then 0 else bit (eqb r.part 1)
 
--- an answer, with n the number behind it, and what comes after it
-abbrev pub onward : (ℕ → List Found) → Found → ℕ → List Found
-onward rest f n = if eqb n 0 then [] else f ∷ rest n
+-- an answer, with n the number behind it, and what comes after it; or none
+abbrev pub onward : (ℕ → List Found) → Found → Option ℕ → List Found
+onward rest f None = []
+onward rest f (Some n) = f ∷ rest n
 
 -- the first answer from number c on, of a row whose answers are numbered below the limit
-pub record Next (rest : ℕ → List Found) (c limit : ℕ) (f : Found) (n : ℕ) : Type 0 where
+pub record Next (rest : ℕ → List Found) (c limit : ℕ) (f : Found) (n : Option ℕ) : Type 0 where
   pub is : rest c ≡ onward rest f n
-  pub further : n ≢ 0 → (c < n) × (n ≤ limit)
+  pub further : IfSome n (λ k. (c < k) × (k ≤ limit))
 
 -- none of these candidates fits a row that wants these numbers
-pub record Missed (i a b : Wanted) (l : List Candidate) : Type 0 where
+pub record Missed (i a b : Option ℕ) (l : List Candidate) : Type 0 where
   pub none : (r : Row) (f : Found) → Wants i r.i f.values → Wants a r.a f.values → Wants b r.b f.values → bind l (λ k. taken r k f) ≡ []
 
 -- from one number up to another no candidate fits
-pub record Skipped (l : ℕ → List Candidate) (i a b : Wanted) (from to : ℕ) : Type 0 where
+pub record Skipped (l : ℕ → List Candidate) (i a b : Option ℕ) (from to : ℕ) : Type 0 where
   pub on : from ≤ to
   pub missed : (c : ℕ) → from ≤ c → c < to → Missed i a b (l c)
 
--- n is the number behind the one candidate that may fit a row by its id, or 0: no other fits
-pub record Alone (words : List ℕ) (s : Scalars) (r : Row) (i : Wanted) (n : ℕ) : Type 0 where
-  pub inside : n ≤ count_of s r
-  pub missed : (a b : Wanted) (c : ℕ) → c < count_of s r → c + 1 ≢ n → Missed i a b (candidate_at words s r c)
+-- n is the number behind the one candidate that may fit a row by its id, if there is one: no other fits
+pub record Alone (words : List ℕ) (s : Scalars) (r : Row) (i : Option ℕ) (n : Option ℕ) : Type 0 where
+  pub inside : IfSome n (λ k. (1 ≤ k) × (k ≤ count_of s r))
+  pub missed : (a b : Option ℕ) (c : ℕ) → c < count_of s r → n ≢ Some (c + 1) → Missed i a b (candidate_at words s r c)
 
 -- an operand that takes no value: any, a constant, a variable with a value
 abbrev pub settled : List ℕ → ℕ → Bool

@@ -1,6 +1,6 @@
 -- What the code's structs say in the model's terms, and what the queries ask of the words.
-use Rattle.std.specs.Prelude.{◌≡◌, Bool, true, false, not, ◌&&◌, ◌||◌, ◌≢◌, List, [], ℕ, ◌+◌, ◌<◌, ◌≤◌, eqb, length, take, get_or, if◌then◌else◌}
-use Rattle.lists.specs.Lists.{bit, when}
+use Rattle.std.specs.Prelude.{◌≡◌, Bool, false, not, ◌&&◌, ◌||◌, ◌≢◌, List, [], ◌∷◌, ℕ, ◌+◌, ◌<◌, ◌≤◌, eqb, length, take, get_or, Option, Some, None, IfSome}
+use Rattle.lists.specs.Lists.{bit}
 use Rattle.model.specs.declared.Row.{Row}
 use Rattle.model.specs.Configuration.{no_value, value_of}
 use Rattle.model.specs.Matching.{Candidate, candidate, meet, Found}
@@ -8,7 +8,6 @@ use Rattle.state.specs.declared.Scalars.{Scalars}
 use Rattle.state.specs.View.{atom_p, plan_at, AtomsRise, PlansRise}
 use Rattle.queries.specs.declared.Bindings.{Bindings}
 use Rattle.queries.specs.declared.Columns.{Columns}
-use Rattle.queries.specs.declared.Wanted.{Wanted}
 
 -- the values so far, and the ids that the reasons matched, of which there are n
 abbrev pub found_in : List ℕ → List ℕ → ℕ → Found
@@ -25,9 +24,10 @@ Sized values matched = (length values ≡ 8) × (length matched ≡ 4)
 abbrev pub Kept : ℕ → List ℕ → List ℕ → Type 0
 Kept n before after = take n after ≡ take n before
 
--- one answer or none
-abbrev pub candidate_of : Columns → List Candidate
-candidate_of x = when x.there (candidate x.i x.a x.b)
+-- one candidate or none
+abbrev pub candidate_of : Option Columns → List Candidate
+candidate_of None = []
+candidate_of (Some x) = candidate x.i x.a x.b ∷ []
 
 -- words of a configuration: as many as there are, no more live than may, sixteen flags to a plan, rising ids
 pub record Limits (words : List ℕ) (s : Scalars) : Type 0 where
@@ -46,31 +46,35 @@ room r n = n + bit (eqb r.part 1)
 abbrev pub Grown : List ℕ → List ℕ → Type 0
 Grown values v = (y : ℕ) → value_of values y ≢ no_value → value_of v y ≡ value_of values y
 
--- no number but the one that is wanted meets the operand, now and once more variables have values
-pub record Wants (w : Wanted) (x : ℕ) (values : List ℕ) : Type 0 where
-  pub misses : w.known ≡ true → (n : ℕ) → n ≢ w.number → (v : List ℕ) → Grown values v → meet x n v ≡ []
+-- no number but the one that is wanted, if one is, meets the operand, now and once more variables have values
+pub record Wants (w : Option ℕ) (x : ℕ) (values : List ℕ) : Type 0 where
+  pub misses : IfSome w (λ m. (n : ℕ) → n ≢ m → (v : List ℕ) → Grown values v → meet x n v ≡ [])
 
 -- a number that is not the one that is wanted
-abbrev pub unlike : Wanted → ℕ → Bool
-unlike w n = w.known && not (eqb n w.number)
+abbrev pub unlike : Option ℕ → ℕ → Bool
+unlike None n = false
+unlike (Some m) n = not (eqb n m)
 
-abbrev pub is_unlike : Wanted → Wanted → Wanted → Columns → Bool
+abbrev pub is_unlike : Option ℕ → Option ℕ → Option ℕ → Columns → Bool
 is_unlike i a b x = unlike i x.i || (unlike a x.a || unlike b x.b)
 
 -- a candidate that is there, with each number that is wanted
-abbrev pub is_like : Wanted → Wanted → Wanted → Columns → Bool
-is_like i a b x = x.there && not (is_unlike i a b x)
+abbrev pub is_like : Option ℕ → Option ℕ → Option ℕ → Option Columns → Bool
+is_like i a b None = false
+is_like i a b (Some x) = not (is_unlike i a b x)
 
 -- none of four numbers is the one that is wanted
-abbrev pub lacks : Wanted → List ℕ → Bool
+abbrev pub lacks : Option ℕ → List ℕ → Bool
 lacks a l = (unlike a (get_or l 0 0) && unlike a (get_or l 1 0)) && (unlike a (get_or l 2 0) && unlike a (get_or l 3 0))
 
 -- where a number is looked for, and the number: where none is wanted, the predicate in its own column
-abbrev pub column_of : Wanted → ℕ → ℕ
-column_of w at = if w.known then at else atom_p
+abbrev pub column_of : Option ℕ → ℕ → ℕ
+column_of None at = atom_p
+column_of (Some m) at = at
 
-abbrev pub sought_of : Wanted → ℕ → ℕ
-sought_of w p = if w.known then w.number else p
+abbrev pub sought_of : Option ℕ → ℕ → ℕ
+sought_of None p = p
+sought_of (Some m) p = m
 
 -- atom c has predicate p, and v and w in the columns y and z
 abbrev pub stands_at : List ℕ → ℕ → ℕ → ℕ → ℕ → ℕ → ℕ → Bool

@@ -1,9 +1,9 @@
 // The candidates of every query by number, and which of them a row can pass over.
-ghost use Rattle.std.specs.Prelude.{◌≡◌, true, false, ◌≢◌, ℕ, ◌+◌, ◌*◌, ◌/◌, ◌%◌, ◌<◌, ◌≤◌, length};
+ghost use Rattle.std.specs.Prelude.{◌≡◌, false, ℕ, ◌+◌, ◌/◌, ◌%◌, ◌<◌, ◌≤◌, length, Option};
 ghost use Rattle.lists.specs.Lists.{within};
 ghost use Rattle.model.specs.Configuration.{has_flag};
 ghost use Rattle.state.specs.View.{atom_b, atom_at, plan_at};
-ghost use Rattle.queries.specs.declared.Wanted.{Wanted};
+ghost use Rattle.queries.specs.declared.Columns.{Columns};
 ghost use Rattle.queries.specs.View.{candidate_of, Limits, unlike, is_like, lacks, column_of, sought_of, stands_at, Without};
 ghost use Rattle.queries.specs.Answers.{atom_candidate, plan_candidate, remainder_candidate, justification_candidate, subgoal_candidate, state_candidate, count_of, candidate_at, Skipped, Alone};
 
@@ -12,48 +12,37 @@ use model::Row;
 use state::Scalars;
 
 // "1 atom (i, p, a, b)": atom k, if its predicate is p.
-pub fn atom_candidate(words: &[u32], p: u32, k: usize) -> Columns
+pub fn atom_candidate(words: &[u32], p: u32, k: usize) -> Option<Columns>
     requires { (length words.now ≡ 2432) × (k < 256) }
     ensures { candidate_of result ≡ atom_candidate p (atom_at words.now k) }
 {
     let x = state::atom_at(words, k);
-    Columns {
+    (x.p == p).then_some(Columns {
         i: x.id,
         a: x.a,
         b: x.b,
-        there: x.p == p,
-    }
+    })
 }
 
 // "3 plan (i, a set, b rule)": plan k.
-pub fn plan_candidate(words: &[u32], k: usize) -> Columns
+pub fn plan_candidate(words: &[u32], k: usize) -> Option<Columns>
     requires { (length words.now ≡ 2432) × (k < 64) }
     ensures { candidate_of result ≡ plan_candidate (plan_at words.now k) }
 {
     let i = state::plan_id(words, k);
     let a = state::plan_set(words, k);
     let b = state::plan_rule(words, k);
-    Columns {
-        i,
-        a,
-        b,
-        there: true,
-    }
+    Some(Columns { i, a, b })
 }
 
 // "5 remainder (i, a steps left)": plan k.
-fn remainder_candidate(words: &[u32], k: usize) -> Columns
+fn remainder_candidate(words: &[u32], k: usize) -> Option<Columns>
     requires { (length words.now ≡ 2432) × (k < 64) }
     ensures { candidate_of result ≡ remainder_candidate (plan_at words.now k) }
 {
     let i = state::plan_id(words, k);
     let a = state::plan_left(words, k);
-    Columns {
-        i,
-        a,
-        b: 0,
-        there: true,
-    }
+    Some(Columns { i, a, b: 0 })
 }
 
 // How many justifications plan k has: the zeros behind them are none.
@@ -77,34 +66,24 @@ pub fn justification_count(words: &[u32], k: usize) -> usize
 }
 
 // "7 justification (i plan, a atom)": plan k and its justification j, if it has so many.
-fn justification_candidate(words: &[u32], k: usize, j: usize) -> Columns
+fn justification_candidate(words: &[u32], k: usize, j: usize) -> Option<Columns>
     requires { (length words.now ≡ 2432) × (k < 64) × (j < 4) }
     ensures { candidate_of result ≡ justification_candidate (plan_at words.now k) j }
 {
     let i = state::plan_id(words, k);
     let a = state::plan_justification(words, k, j);
     let n = justification_count(words, k);
-    Columns {
-        i,
-        a,
-        b: 0,
-        there: j < n,
-    }
+    (j < n).then_some(Columns { i, a, b: 0 })
 }
 
 // "9 subgoal (i plan, a atom)": plan k, if it has one.
-fn subgoal_candidate(words: &[u32], k: usize) -> Columns
+fn subgoal_candidate(words: &[u32], k: usize) -> Option<Columns>
     requires { (length words.now ≡ 2432) × (k < 64) }
     ensures { candidate_of result ≡ subgoal_candidate (plan_at words.now k) }
 {
     let i = state::plan_id(words, k);
     let a = state::plan_subgoal(words, k);
-    Columns {
-        i,
-        a,
-        b: 0,
-        there: a != 0,
-    }
+    (a != 0).then_some(Columns { i, a, b: 0 })
 }
 
 // Whether a flag is set, of any number.
@@ -121,19 +100,14 @@ fn flagged(flags: u16, f: u32) -> bool
 }
 
 // "11 state (i, a a constant flag 1 to 16)": plan k, if its flag is set.
-fn state_candidate(words: &[u32], x: u32, k: usize) -> Columns
+fn state_candidate(words: &[u32], x: u32, k: usize) -> Option<Columns>
     requires { (length words.now ≡ 2432) × (k < 64) × ((plan_at words.now k).flags ≤ 65535) }
     ensures { candidate_of result ≡ state_candidate x (plan_at words.now k) }
 {
     let i = state::plan_id(words, k);
     let a = model::constant(x);
     let flags = state::plan_flags(words, k) as u16;
-    Columns {
-        i,
-        a,
-        b: 0,
-        there: flagged(flags, a),
-    }
+    flagged(flags, a).then_some(Columns { i, a, b: 0 })
 }
 
 // How many candidates are numbered.
@@ -163,7 +137,7 @@ pub fn count(s: Scalars, r: Row) -> usize
 }
 
 // Candidate c of a row. "13 cycle (a)": one, the present cycle.
-pub fn candidate_at(words: &[u32], s: Scalars, r: Row, c: usize) -> Columns
+pub fn candidate_at(words: &[u32], s: Scalars, r: Row, c: usize) -> Option<Columns>
     requires { Limits words.now s × (c < count_of s r) }
     ensures { candidate_of result ≡ candidate_at words.now s r c }
 {
@@ -186,35 +160,28 @@ pub fn candidate_at(words: &[u32], s: Scalars, r: Row, c: usize) -> Columns
     if (11 <= op) & (op <= 12) {
         return state_candidate(words, r.a, c);
     }
-    Columns {
+    Some(Columns {
         i: 0,
         a: s.cycle,
         b: 0,
-        there: true,
-    }
+    })
 }
 
 // The number is not the one that is wanted.
 fn is_unlike(w: Wanted, n: u32) -> bool
     ensures { result ≡ unlike w n }
 {
-    w.known & (n != w.number)
+    w.is_some_and(|m| n != m)
 }
 
 // The candidate is there, and each number that is wanted is its own.
-fn is_like(i: Wanted, a: Wanted, b: Wanted, x: Columns) -> bool
+fn is_like(i: Wanted, a: Wanted, b: Wanted, x: Option<Columns>) -> bool
     ensures { result ≡ is_like i a b x }
 {
-    if !x.there {
+    let Some(x) = x else {
         return false;
-    }
-    if is_unlike(a, x.a) {
-        return false;
-    }
-    if is_unlike(b, x.b) {
-        return false;
-    }
-    !is_unlike(i, x.i)
+    };
+    !(is_unlike(i, x.i) | (is_unlike(a, x.a) | is_unlike(b, x.b)))
 }
 
 // The column that a number is looked for in, and the number: where none is wanted, the predicate in its own column.
@@ -222,7 +189,7 @@ fn column(w: Wanted, at: usize) -> usize
     requires { at ≤ atom_b }
     ensures { (result ≡ column_of w at) × (result ≤ atom_b) }
 {
-    if w.known {
+    if w.is_some() {
         return at;
     }
     state::ATOM_P
@@ -231,10 +198,7 @@ fn column(w: Wanted, at: usize) -> usize
 fn sought(w: Wanted, p: u32) -> u32
     ensures { result ≡ sought_of w p }
 {
-    if w.known {
-        return w.number;
-    }
-    p
+    w.unwrap_or(p)
 }
 
 // Atom c has predicate p, and v and w in the columns y and z.
@@ -271,14 +235,14 @@ fn pass_eights(
     requires { (length words.now ≡ 2432) × (y ≤ atom_b) × (z ≤ atom_b) × (from ≤ n) × (n ≤ 256) }
     ensures { Without words.now p y v z w from result × (result ≤ n) }
 {
-    let mut c = from;
-    while c + 8 <= n {
+    let eights = (n - from) / 8;
+    for k in 0..eights {
+        let c = from + k * 8;
         if any_of_eight(words, p, y, v, z, w, c) {
             return c;
         }
-        c += 8;
     }
-    c
+    from + eights * 8
 }
 
 // From `from` on, up to such an atom or n.
@@ -295,20 +259,18 @@ fn pass_ones(
     requires { (length words.now ≡ 2432) × (y ≤ atom_b) × (z ≤ atom_b) × (from ≤ n) × (n ≤ 256) }
     ensures { Without words.now p y v z w from result × (result ≤ n) }
 {
-    let mut c = from;
-    while c < n {
+    for c in from..n {
         if stands(words, p, y, v, z, w, c) {
             return c;
         }
-        c += 1;
     }
-    c
+    n
 }
 
 // The first candidate from `from` on that is like what is wanted, or n; of atoms, and so on by query.
 pub fn skip_atoms(words: &[u32], p: u32, a: Wanted, b: Wanted, from: usize, n: usize) -> usize
     requires { (length words.now ≡ 2432) × (n ≤ 256) }
-    ensures { (i : Wanted) → Skipped (λ c. atom_candidate p (atom_at words.now c)) i a b from result }
+    ensures { (i : Option ℕ) → Skipped (λ c. atom_candidate p (atom_at words.now c)) i a b from result }
 {
     if n <= from {
         return from;
@@ -324,72 +286,25 @@ pub fn skip_atoms(words: &[u32], p: u32, a: Wanted, b: Wanted, from: usize, n: u
     pass_ones(words, p, y, v, z, w, c, n)
 }
 
-fn skip_plans(words: &[u32], i: Wanted, a: Wanted, b: Wanted, from: usize, n: usize) -> usize
-    requires { (length words.now ≡ 2432) × (n ≤ 64) }
-    ensures { Skipped (λ c. plan_candidate (plan_at words.now c)) i a b from result }
-{
-    let mut c = from;
-    while c < n {
-        let x = plan_candidate(words, c);
-        if is_like(i, a, b, x) {
-            return c;
-        }
-        c += 1;
-    }
-    c
-}
-
-fn skip_remainders(words: &[u32], i: Wanted, a: Wanted, b: Wanted, from: usize, n: usize) -> usize
-    requires { (length words.now ≡ 2432) × (n ≤ 64) }
-    ensures { Skipped (λ c. remainder_candidate (plan_at words.now c)) i a b from result }
-{
-    let mut c = from;
-    while c < n {
-        let x = remainder_candidate(words, c);
-        if is_like(i, a, b, x) {
-            return c;
-        }
-        c += 1;
-    }
-    c
-}
-
-fn skip_subgoals(words: &[u32], i: Wanted, a: Wanted, b: Wanted, from: usize, n: usize) -> usize
-    requires { (length words.now ≡ 2432) × (n ≤ 64) }
-    ensures { Skipped (λ c. subgoal_candidate (plan_at words.now c)) i a b from result }
-{
-    let mut c = from;
-    while c < n {
-        let x = subgoal_candidate(words, c);
-        if is_like(i, a, b, x) {
-            return c;
-        }
-        c += 1;
-    }
-    c
-}
-
-fn skip_states(
-    words: &[u32],
-    flag: u32,
+// The same of any candidates, one by one.
+fn skip_by<F: Fn(usize) -> Option<Columns>>(
+    candidate: F,
     i: Wanted,
     a: Wanted,
     b: Wanted,
     from: usize,
     n: usize,
 ) -> usize
-    requires { (length words.now ≡ 2432) × (n ≤ 64) × ((k : ℕ) → k < n → (plan_at words.now k).flags ≤ 65535) }
-    ensures { Skipped (λ c. state_candidate flag (plan_at words.now c)) i a b from result }
+    requires { (c : ℕ) → c < n → F.pre candidate c }
+    ensures on { from ≤ result }
+    ensures missed { (c : ℕ) → c < result → from ≤ c → (x : Option Columns) × F.post candidate c x × (is_like i a b x ≡ false) }
 {
-    let mut c = from;
-    while c < n {
-        let x = state_candidate(words, flag, c);
-        if is_like(i, a, b, x) {
+    for c in from..n {
+        if is_like(i, a, b, candidate(c)) {
             return c;
         }
-        c += 1;
     }
-    c
+    from.max(n)
 }
 
 // None of plan k's justifications is the number that is wanted.
@@ -406,98 +321,65 @@ fn is_lacking(a: Wanted, words: &[u32], k: usize) -> bool
 
 // A plan with another id than is wanted, or without the atom, is passed over with its four numbers, and so are those past its last
 // justification.
-fn skip_justifications(words: &[u32], i: Wanted, a: Wanted, from: usize, n: usize) -> usize
-    requires { (length words.now ≡ 2432) × (n ≤ 256) }
-    ensures { (b : Wanted) → Skipped (λ c. justification_candidate (plan_at words.now (c / 4)) (c % 4)) i a b from result }
+fn skip_justifications(words: &[u32], i: Wanted, a: Wanted, from: usize, plans: usize) -> usize
+    requires { (length words.now ≡ 2432) × (plans ≤ 64) }
+    ensures { (b : Option ℕ) → Skipped (λ c. justification_candidate (plan_at words.now (c / 4)) (c % 4)) i a b from result }
 {
-    let mut c = from;
-    while c < n {
-        let k = c / 4;
-        let j = c % 4;
+    for k in from / 4..plans {
         let id = state::plan_id(words, k);
         if is_unlike(i, id) {
-            c = k * 4 + 4;
             continue;
         }
         if is_lacking(a, words, k) {
-            c = k * 4 + 4;
             continue;
         }
-        let atom = state::plan_justification(words, k, j);
-        if is_unlike(a, atom) {
-            c += 1;
-            continue;
+        for j in from.saturating_sub(k * 4)..justification_count(words, k) {
+            let atom = state::plan_justification(words, k, j);
+            if is_unlike(a, atom) {
+                continue;
+            }
+            return k * 4 + j;
         }
-        if justification_count(words, k) <= j {
-            c = k * 4 + 4;
-            continue;
-        }
-        return c;
     }
-    c
+    from.max(plans * 4)
 }
 
-// The next place to look at for what stands at one place only, or nowhere: then that place is n.
-fn leap(from: usize, at: usize, n: usize) -> usize
-    requires { at ≤ n }
-    ensures { (from ≤ result) × ((c : ℕ) → from ≤ c → c < result → (c < n) × (c ≢ at)) }
+// The next number to look at for what stands at one place only, with `width` numbers: from there on, or nowhere, and then that is n.
+fn leap(from: usize, at: usize, width: usize, n: usize) -> usize
+    requires { (at ≤ n) × (n ≤ 256) × (1 ≤ width) × (width ≤ 4) }
+    ensures { (from ≤ result) × ((c : ℕ) → from ≤ c → c < result → (c < n) × (at ≤ c → at + width ≤ c)) }
 {
     if from <= at {
         return at;
     }
-    if from < n {
-        return n;
-    }
-    from
-}
-
-// The same for what has four numbers, as the justifications of plan k.
-fn leap_four(from: usize, k: usize, n: usize) -> usize
-    requires { (k * 4 ≤ n) × (n ≤ 256) }
-    ensures { (from ≤ result) × ((c : ℕ) → from ≤ c → c < result → (c < n) × (c / 4 ≢ k)) }
-{
-    let at = k * 4;
-    if from <= at {
-        return at;
-    }
-    if from < at + 4 {
+    if from < at + width {
         return from;
     }
-    if from < n {
-        return n;
-    }
-    from
+    from.max(n)
 }
 
-// The number behind the one candidate that has the id that is wanted, or 0: by halves, since ids rise. Rows 7 and 8 have four to a plan, and
-// row 13 names no instance.
-pub fn behind(words: &[u32], s: Scalars, r: Row, i: Wanted) -> usize
-    requires { Limits words.now s × (i.known ≡ true) × (1 ≤ r.op) × (r.op ≤ 12) × (within 7 8 r.op ≡ false) }
-    ensures { Alone words.now s r i result }
+// The number behind the one candidate that has the id that is wanted, if one has: by halves, since ids rise. Rows 7 and 8 have four to a plan,
+// and row 13 names no instance.
+pub fn behind(words: &[u32], s: Scalars, r: Row, id: u32) -> Option<usize>
+    requires { Limits words.now s × (1 ≤ r.op) × (r.op ≤ 12) × (within 7 8 r.op ≡ false) }
+    ensures { Alone words.now s r (Some id) result }
 {
     if r.op <= 2 {
-        let k = state::find_atom(words, s.atoms, i.number);
-        if s.atoms as usize <= k {
-            return 0;
-        }
-        return k + 1;
+        return Some(state::find_atom(words, s.atoms, id)? + 1);
     }
-    let k = state::find_plan(words, s.plans, i.number);
-    if s.plans as usize <= k {
-        return 0;
-    }
-    k + 1
+    Some(state::find_plan(words, s.plans, id)? + 1)
 }
 
 // An id that is wanted is found by halves, since ids rise; no candidate with another id fits.
-fn skip_wanted(words: &[u32], s: Scalars, r: Row, i: Wanted, from: usize) -> usize
-    requires { Limits words.now s × (i.known ≡ true) }
-    ensures { (a b : Wanted) → Skipped (candidate_at words.now s r) i a b from result }
+fn skip_wanted(words: &[u32], s: Scalars, r: Row, id: u32, from: usize) -> usize
+    requires { Limits words.now s }
+    ensures { (a b : Option ℕ) → Skipped (candidate_at words.now s r) (Some id) a b from result }
 {
     let op = r.op;
     if (1 <= op) & (op <= 2) {
-        let k = state::find_atom(words, s.atoms, i.number);
-        return leap(from, k, s.atoms as usize);
+        let n = s.atoms as usize;
+        let k = state::find_atom(words, s.atoms, id).unwrap_or(n);
+        return leap(from, k, 1, n);
     }
     if op < 3 {
         return from;
@@ -505,11 +387,12 @@ fn skip_wanted(words: &[u32], s: Scalars, r: Row, i: Wanted, from: usize) -> usi
     if 12 < op {
         return from;
     }
-    let k = state::find_plan(words, s.plans, i.number);
+    let n = s.plans as usize;
+    let k = state::find_plan(words, s.plans, id).unwrap_or(n);
     if (7 <= op) & (op <= 8) {
-        return leap_four(from, k, s.plans as usize * 4);
+        return leap(from, k * 4, 4, n * 4);
     }
-    leap(from, k, s.plans as usize)
+    leap(from, k, 1, n)
 }
 
 // The first candidate of a row from `from` on that may fit: the kind of candidate is chosen once for all that are passed over.
@@ -525,27 +408,28 @@ pub fn skip(
     requires { Limits words.now s }
     ensures { Skipped (candidate_at words.now s r) i a b from result }
 {
-    if i.known {
-        return skip_wanted(words, s, r, i, from);
+    if let Some(id) = i {
+        return skip_wanted(words, s, r, id, from);
     }
     let op = r.op;
+    let n = s.plans as usize;
     if (1 <= op) & (op <= 2) {
         return skip_atoms(words, r.p, a, b, from, s.atoms as usize);
     }
     if (3 <= op) & (op <= 4) {
-        return skip_plans(words, i, a, b, from, s.plans as usize);
+        return skip_by(|c| plan_candidate(words, c), i, a, b, from, n);
     }
     if (5 <= op) & (op <= 6) {
-        return skip_remainders(words, i, a, b, from, s.plans as usize);
+        return skip_by(|c| remainder_candidate(words, c), i, a, b, from, n);
     }
     if (7 <= op) & (op <= 8) {
-        return skip_justifications(words, i, a, from, s.plans as usize * 4);
+        return skip_justifications(words, i, a, from, n);
     }
     if (9 <= op) & (op <= 10) {
-        return skip_subgoals(words, i, a, b, from, s.plans as usize);
+        return skip_by(|c| subgoal_candidate(words, c), i, a, b, from, n);
     }
     if (11 <= op) & (op <= 12) {
-        return skip_states(words, r.a, i, a, b, from, s.plans as usize);
+        return skip_by(|c| state_candidate(words, r.a, c), i, a, b, from, n);
     }
     from
 }

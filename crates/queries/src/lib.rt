@@ -3,7 +3,8 @@
 
 pub mod candidates;
 
-ghost use Rattle.std.specs.Prelude.{◌≡◌, true, false, ◌+◌, ◌≤◌, length};
+ghost use Rattle.std.specs.Prelude.{◌≡◌, false, ◌||◌, ◌+◌, ◌≤◌, length, is_some};
+ghost use Rattle.model.specs.Program.{any?};
 ghost use Rattle.lists.specs.Lists.{within, when};
 ghost use Rattle.model.specs.Matching.{candidate, meet as met-with, fit as fit_of};
 ghost use Rattle.queries.specs.View.{found_in, Limits, room, Sized, Kept, Wants};
@@ -20,21 +21,16 @@ pub struct Bindings {
     pub count: usize,
 }
 
-// What stands in the columns i, a and b of a candidate, if it is there.
+// What stands in the columns i, a and b of a candidate.
 #[derive(Clone, Copy)]
 pub struct Columns {
     pub i: u32,
     pub a: u32,
     pub b: u32,
-    pub there: bool,
 }
 
-// A number that must be met, if it is known.
-#[derive(Clone, Copy)]
-pub struct Wanted {
-    pub number: u32,
-    pub known: bool,
-}
+// The number that an operand must meet, if it is known.
+pub type Wanted = Option<u32>;
 
 // "A variable without a value takes the candidate's; one with a value must equal it." False where it does not fit.
 fn meet(x: u32, n: u32, values: &mut [u32; 8]) -> bool
@@ -74,15 +70,21 @@ fn fit(r: Row, i: u32, a: u32, b: u32, values: &mut [u32; 8]) -> bool
 
 // A candidate into what is found so far: its values, and of a reason its id behind `count` others. False where it is not there or does
 // not fit.
-fn take(r: Row, x: Columns, count: usize, values: &mut [u32; 8], matched: &mut [u32; 4]) -> bool
+fn take(
+    r: Row,
+    x: Option<Columns>,
+    count: usize,
+    values: &mut [u32; 8],
+    matched: &mut [u32; 4],
+) -> bool
     requires { (room r count ≤ 4) × Sized values.old matched.old }
     ensures sized { Sized values.new matched.new }
     ensures is { when result (found_in values.new matched.new (room r count)) ≡ tried r x (found_in values.old matched.old count) }
     ensures kept { Kept count matched.old matched.new }
 {
-    if !x.there {
+    let Some(x) = x else {
         return false;
-    }
+    };
     if !fit(r, x.i, x.a, x.b, values) {
         return false;
     }
@@ -96,30 +98,21 @@ fn take(r: Row, x: Columns, count: usize, values: &mut [u32; 8], matched: &mut [
 // The number that an operand must meet, if it is known: a constant, or the value of its variable.
 pub fn wanted_by(x: u32, values: &[u32]) -> Wanted
     requires { length values.now ≡ 8 }
-    ensures { Wants result x values.now }
+    ensures wants { Wants result x values.now }
+    ensures known { (any? x || is_some result) ≡ settled values.now x }
 {
-    if 9 <= x {
-        return Wanted {
-            number: x - 9,
-            known: true,
-        };
-    }
-    if 0 < x {
-        let k = (8 - x) as usize;
-        let v = values[k];
-        return Wanted {
-            number: v,
-            known: v != state::NO_VALUE,
-        };
-    }
-    Wanted {
-        number: 0,
-        known: false,
+    match x {
+        0 => None,
+        1..=8 => {
+            let v = values[(8 - x) as usize];
+            (v != state::NO_VALUE).then_some(v)
+        }
+        _ => Some(x - 9),
     }
 }
 
-// The first atom from `from` on that fits a row that wants these arguments, into what is found so far: the number behind it, or 0. `before`
-// is what the values are.
+// The first atom from `from` on that fits a row that wants these arguments, into what is found so far: the number behind it. `before` is what
+// the values are.
 fn next_atom(
     words: &[u32],
     s: Scalars,
@@ -131,24 +124,25 @@ fn next_atom(
     count: usize,
     values: &mut [u32; 8],
     matched: &mut [u32; 4],
-) -> usize
+) -> Option<usize>
     requires { Limits words.now s × (room r count ≤ 4) × Sized values.old matched.old × (values.old ≡ before) × (1 ≤ r.op) × (r.op ≤ 2) × Wants a r.a before × Wants b r.b before }
     ensures sized { Sized values.new matched.new }
     ensures is { Next (hits words.now s r (found_in before matched.old count)) from (count_of s r) (found_in values.new matched.new (room r count)) result }
-    ensures back { result ≡ 0 → values.new ≡ before }
+    ensures back { result ≡ None → values.new ≡ before }
     ensures kept { Kept count matched.old matched.new }
 {
-    let mut c = candidates::skip_atoms(words, r.p, a, b, from, s.atoms as usize);
-    while c < s.atoms as usize {
+    let n = s.atoms as usize;
+    let mut c = candidates::skip_atoms(words, r.p, a, b, from, n);
+    while c < n {
         let x = candidates::atom_candidate(words, r.p, c);
         c += 1;
         if take(r, x, count, values, matched) {
-            return c;
+            return Some(c);
         }
         *values = before;
-        c = candidates::skip_atoms(words, r.p, a, b, c, s.atoms as usize);
+        c = candidates::skip_atoms(words, r.p, a, b, c, n);
     }
-    0
+    None
 }
 
 // The same of the candidates of any row.
@@ -161,11 +155,11 @@ fn next_candidate(
     count: usize,
     values: &mut [u32; 8],
     matched: &mut [u32; 4],
-) -> usize
+) -> Option<usize>
     requires { Limits words.now s × (room r count ≤ 4) × Sized values.old matched.old × (values.old ≡ before) }
     ensures sized { Sized values.new matched.new }
     ensures is { Next (hits words.now s r (found_in before matched.old count)) from (count_of s r) (found_in values.new matched.new (room r count)) result }
-    ensures back { result ≡ 0 → values.new ≡ before }
+    ensures back { result ≡ None → values.new ≡ before }
     ensures kept { Kept count matched.old matched.new }
 {
     let n = candidates::count(s, r);
@@ -177,12 +171,12 @@ fn next_candidate(
         let x = candidates::candidate_at(words, s, r, c);
         c += 1;
         if take(r, x, count, values, matched) {
-            return c;
+            return Some(c);
         }
         *values = before;
         c = candidates::skip(words, s, r, i, a, b, c);
     }
-    0
+    None
 }
 
 // The same of a row that asks for a plan whose id is not known: few live, so each is tried.
@@ -195,23 +189,21 @@ fn next_plan(
     count: usize,
     values: &mut [u32; 8],
     matched: &mut [u32; 4],
-) -> usize
+) -> Option<usize>
     requires { Limits words.now s × (room r count ≤ 4) × Sized values.old matched.old × (values.old ≡ before) × (3 ≤ r.op) × (r.op ≤ 4) }
     ensures sized { Sized values.new matched.new }
     ensures is { Next (hits words.now s r (found_in before matched.old count)) from (count_of s r) (found_in values.new matched.new (room r count)) result }
-    ensures back { result ≡ 0 → values.new ≡ before }
+    ensures back { result ≡ None → values.new ≡ before }
     ensures kept { Kept count matched.old matched.new }
 {
-    let mut c = from;
-    while c < s.plans as usize {
+    for c in from..s.plans as usize {
         let x = candidates::plan_candidate(words, c);
-        c += 1;
         if take(r, x, count, values, matched) {
-            return c;
+            return Some(c + 1);
         }
         *values = before;
     }
-    0
+    None
 }
 
 // The same of a row whose id is known, and which has one candidate with it at most.
@@ -219,29 +211,29 @@ fn next_known(
     words: &[u32],
     s: Scalars,
     r: Row,
-    i: Wanted,
+    id: u32,
     from: usize,
     before: [u32; 8],
     count: usize,
     values: &mut [u32; 8],
     matched: &mut [u32; 4],
-) -> usize
-    requires { Limits words.now s × (room r count ≤ 4) × Sized values.old matched.old × (values.old ≡ before) × Wants i r.i before × (i.known ≡ true) × (1 ≤ r.op) × (r.op ≤ 12) × (within 7 8 r.op ≡ false) }
+) -> Option<usize>
+    requires { Limits words.now s × (room r count ≤ 4) × Sized values.old matched.old × (values.old ≡ before) × Wants (Some id) r.i before × (1 ≤ r.op) × (r.op ≤ 12) × (within 7 8 r.op ≡ false) }
     ensures sized { Sized values.new matched.new }
     ensures is { Next (hits words.now s r (found_in before matched.old count)) from (count_of s r) (found_in values.new matched.new (room r count)) result }
-    ensures back { result ≡ 0 → values.new ≡ before }
+    ensures back { result ≡ None → values.new ≡ before }
     ensures kept { Kept count matched.old matched.new }
 {
-    let c = candidates::behind(words, s, r, i);
+    let c = candidates::behind(words, s, r, id)?;
     if c <= from {
-        return 0;
+        return None;
     }
     let x = candidates::candidate_at(words, s, r, c - 1);
     if take(r, x, count, values, matched) {
-        return c;
+        return Some(c);
     }
     *values = before;
-    0
+    None
 }
 
 // The same by the kind of row: what most rows ask for has a way of its own.
@@ -254,34 +246,36 @@ fn next_fit(
     count: usize,
     values: &mut [u32; 8],
     matched: &mut [u32; 4],
-) -> usize
+) -> Option<usize>
     requires { Limits words.now s × (room r count ≤ 4) × Sized values.old matched.old × (values.old ≡ before) }
     ensures sized { Sized values.new matched.new }
     ensures is { Next (hits words.now s r (found_in before matched.old count)) from (count_of s r) (found_in values.new matched.new (room r count)) result }
-    ensures back { result ≡ 0 → values.new ≡ before }
+    ensures back { result ≡ None → values.new ≡ before }
     ensures kept { Kept count matched.old matched.new }
 {
     let op = r.op;
-    let i = wanted_by(r.i, &before);
+    if let Some(id) = wanted_by(r.i, &before) {
+        let is_single = (1 <= op) & ((op <= 12) & !((7 <= op) & (op <= 8)));
+        if is_single {
+            return next_known(words, s, r, id, from, before, count, values, matched);
+        }
+        return next_candidate(words, s, r, from, before, count, values, matched);
+    }
     let is_atom = (1 <= op) & (op <= 2);
-    if !i.known & is_atom {
+    if is_atom {
         let a = wanted_by(r.a, &before);
         let b = wanted_by(r.b, &before);
         return next_atom(words, s, r, a, b, from, before, count, values, matched);
     }
     let is_plan = (3 <= op) & (op <= 4);
-    if !i.known & is_plan {
+    if is_plan {
         return next_plan(words, s, r, from, before, count, values, matched);
-    }
-    let is_single = (1 <= op) & ((op <= 12) & !((7 <= op) & (op <= 8)));
-    if i.known & is_single {
-        return next_known(words, s, r, i, from, before, count, values, matched);
     }
     next_candidate(words, s, r, from, before, count, values, matched)
 }
 
-// What a row gives, from number c on: a query each candidate that fits, a negation what was found before, if none fits. The number
-// behind the answer, or 0.
+// What a row gives, from number c on: a query each candidate that fits, a negation what was found before, if none fits: the number
+// behind the answer.
 pub fn next_answer(
     words: &[u32],
     s: Scalars,
@@ -291,24 +285,24 @@ pub fn next_answer(
     count: usize,
     values: &mut [u32; 8],
     matched: &mut [u32; 4],
-) -> usize
+) -> Option<usize>
     requires { Limits words.now s × (room r count ≤ 4) × Sized values.old matched.old × (values.old ≡ before) }
     ensures sized { Sized values.new matched.new }
     ensures is { Next (answers words.now s r (found_in before matched.old count)) c (width s r) (found_in values.new matched.new (count + given_ids r)) result }
-    ensures back { result ≡ 0 → values.new ≡ before }
+    ensures back { result ≡ None → values.new ≡ before }
     ensures kept { Kept count matched.old matched.new }
 {
     if r.op % 2 == 1 {
         return next_fit(words, s, r, c, before, count, values, matched);
     }
     if 0 < c {
-        return 0;
+        return None;
     }
-    if next_fit(words, s, r, 0, before, count, values, matched) == 0 {
-        return 1;
+    if next_fit(words, s, r, 0, before, count, values, matched).is_none() {
+        return Some(1);
     }
     *values = before;
-    0
+    None
 }
 
 // How many ids a row adds to those that were matched: a reason its candidate's, a negation none.
@@ -329,14 +323,7 @@ pub fn settles(x: u32, values: &[u32]) -> bool
     requires { length values.now ≡ 8 }
     ensures { result ≡ settled values.now x }
 {
-    if 9 <= x {
-        return true;
-    }
-    if 0 < x {
-        let k = (8 - x) as usize;
-        return values[k] != state::NO_VALUE;
-    }
-    true
+    (x == 0) | wanted_by(x, values).is_some()
 }
 
 // Whether a row leaves everything as it was: no operand takes a value, and it is no reason.

@@ -1,8 +1,7 @@
 -- The causes of refusals in plain words, by their numbers in document 01's table.
-use Rattle.std.specs.Prelude.{◌≡◌, List, ℕ, ◌≤◌, eqb, length, take, if◌then◌else◌}
+use Rattle.std.specs.Prelude.{List, ℕ, eqb, if◌then◌else◌}
 use Prim.Native.String.{String}
 use Rattle.model.specs.Text.{bytes}
-use Rattle.refusals.specs.declared.Words.{Words}
 
 -- "| cause | no. |"
 unfoldable pub cause : ℕ → String
@@ -20,12 +19,6 @@ cause n =
     else if eqb n 11 then "cycle 65535 would end"
     else if eqb n 12 then "delete of an id not alive"
     else "unknown"
-
--- the first bytes of the array are the text
-pub record Says (w : Words) (text : List ℕ) : Type 0 where
-  pub inside : w.length ≤ length w.bytes
-  pub long : w.length ≡ length (take w.length w.bytes)
-  pub is : take w.length w.bytes ≡ text
 
 -- the words for a number
 abbrev pub words : ℕ → List ℕ

@@ -6,10 +6,11 @@ use Prim.Native.Nat.{ℕ, ◌+◌, ◌-◌, ◌≤◌}
 use native.Mathlib.Omega.{arith}
 use lib.ListN.{length, drop, length-append, length-drop}
 use Rattle.script.specs.Reading.{spaces_in}
-use Rattle.program.specs.Loading as Loading
 use Rattle.loading.specs.declared.Started.{Started}
 use Rattle.loading.specs.Starting.{Start, seen, starting}
-use Rattle.loading.proofs.Starts.{few_rows}
+use Rattle.program_laws.proofs.Lawful.{lawful}
+use Rattle.program_laws.proofs.WellFormed.{loads_well_formed}
+use Rattle.program.proofs.Accepts.{Accepts, number_0}
 use Rattle.state.specs.declared.Config.{Config}
 use Rattle.state.specs.declared.Scalars.{Scalars}
 use Rattle.state.specs.View.{config_of}
@@ -22,9 +23,11 @@ use Rattle.in_place.proofs.Outcomes.{given_admitted}
 
 -- an accepted load has at most 512 rows
 pub rows_started : (text lent : List ℕ) (c : Configuration.Config) (r : Started) (after : List ℕ) → seen r after ≡ starting text lent c → r.number ≡ 0 → r.rows ≤ 512
-unfolding seen starting Loading.seen
+unfolding seen starting
 rows_started text lent c r after e z =
-    few_rows text lent (record { number = r.number; line = r.line; rows = r.rows }) after (ap (λ (s : Start). s.answer) e) z
+    let a : Accepts text lent = number_0 text lent (sym (ap (λ (s : Start). s.answer.number) e) ∙ z) in
+    let l = lawful a.rows (loads_well_formed text a.rows a.loads) in
+    omega (arith, l.few_rows, a.counts, ap (λ (s : Start). s.answer.rows) e)
 
 -- what is admitted can be listed
 pub admitted_listable : (program words : List ℕ) (s : Scalars) → length words ≡ 2432 → admitted program (config_of words s) ≡ true → Listable words s

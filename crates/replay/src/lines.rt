@@ -4,8 +4,8 @@ ghost use Rattle.script.specs.Reading.{Within};
 
 use crate::output::{Bench, Page};
 use crate::{calls, output, raw};
-use input::Kind;
-use script::{Command, Found};
+use input::NoLine;
+use script::{Command, Misread};
 use state::Config;
 use std::rt::Files;
 use std::time::{CpuClock, Duration};
@@ -210,7 +210,12 @@ fn wanted(command: Command) -> usize {
     }
 }
 
-fn find_numbers(command: Command, line: &[u8], end: usize, numbers: &mut [u32]) -> Found
+fn find_numbers(
+    command: Command,
+    line: &[u8],
+    end: usize,
+    numbers: &mut [u32],
+) -> Result<usize, Misread>
     requires { (end ≤ length line.now) × (length line.now ≤ length numbers.old) }
     ensures { Within (length line.now) result }
 {
@@ -235,9 +240,9 @@ fn numbers_line(
 {
     let mut numbers = [0u32; 4096];
     match find_numbers(command, line, end, &mut numbers) {
-        Found::Numbers(count) => obey(rt, &program[..words], command, &numbers, count, b, out),
-        Found::Miscounted { wanted, there } => fail_count(b, wanted, there, out),
-        Found::NoNumber { k: _, from, to } => {
+        Ok(count) => obey(rt, &program[..words], command, &numbers, count, b, out),
+        Err(Misread::Miscounted { wanted, there }) => fail_count(b, wanted, there, out),
+        Err(Misread::NoNumber { k: _, from, to }) => {
             fail_word(b, b"not a number: `", &line[from..to], b"`\n", out)
         }
     }
@@ -273,34 +278,15 @@ fn replay(
     }
 }
 
-// The next line of the script, or its end.
-fn take_line(
-    rt: &(impl Files + CpuClock),
-    program: &mut [u32; 4096],
-    rows: u32,
-    line: &[u8],
-    kind: Kind,
-    b: Bench,
-    out: &mut Page,
-) -> Turned
-    requires { (rows ≤ 512) × (length line.now ≤ 4096) }
-    ensures { result.rows ≤ 512 }
-{
-    match kind {
-        Kind::Line => replay(rt, program, rows, line, b, out),
-        Kind::End => Turned {
-            bench: b.over(0),
-            rows,
-        },
-        Kind::Unended => Turned {
-            bench: fail(b, b"the line is not ended by byte 10", out),
-            rows,
-        },
-        Kind::Long => Turned {
-            bench: fail(b, b"the line is longer than 4096 bytes", out),
-            rows,
-        },
-    }
+// Where there is no line, the script is left.
+pub fn left(reason: NoLine, b: Bench, out: &mut Page) -> Bench {
+    let bench = match reason {
+        NoLine::End => b.over(0),
+        NoLine::Unended => fail(b, b"the line is not ended by byte 10", out),
+        NoLine::Long => fail(b, b"the line is longer than 4096 bytes", out),
+    };
+    output::write(out, bench.at);
+    bench
 }
 
 // What a line prints is written.
@@ -309,14 +295,13 @@ pub fn turn(
     program: &mut [u32; 4096],
     rows: u32,
     line: &[u8],
-    kind: Kind,
     b: Bench,
     out: &mut Page,
 ) -> Turned
     requires { (rows ≤ 512) × (length line.now ≤ 4096) }
     ensures { result.rows ≤ 512 }
 {
-    let turned = take_line(rt, program, rows, line, kind, b, out);
+    let turned = replay(rt, program, rows, line, b, out);
     let bench = turned.bench;
     output::write(out, bench.at);
     turned

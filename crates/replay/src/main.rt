@@ -51,23 +51,23 @@ fn main(rt: HostRuntime) -> io::Result<()> {
     let mut line: u64 = 0;
     while line < MOST_LINES {
         line += 1;
-        let next = input::next_line(&mut stdin, &mut script, from, to);
-        let begin = next.from;
-        let end = next.end;
-        let kind = next.kind;
-        let turned = lines::turn(
-            &rt,
-            &mut program,
-            rows,
-            &script[begin..end],
-            kind,
-            bench.at_line(line),
-            &mut page,
-        );
-        bench = turned.bench;
-        rows = turned.rows;
-        from = next.behind;
-        to = next.to;
+        match input::next_line(&mut stdin, &mut script, from, to) {
+            Ok(next) => {
+                let turned = lines::turn(
+                    &rt,
+                    &mut program,
+                    rows,
+                    &script[next.from..next.end],
+                    bench.at_line(line),
+                    &mut page,
+                );
+                bench = turned.bench;
+                rows = turned.rows;
+                from = next.behind;
+                to = next.to;
+            }
+            Err(reason) => bench = lines::left(reason, bench.at_line(line), &mut page),
+        }
         page.written?;
         if bench.is_over {
             return Ok(());

@@ -132,11 +132,8 @@ pub fn put_sums(out: &mut Page, at: usize, made: u32, gone: u32) -> usize {
 
 // A colon, the cause of a refusal, the end of the line.
 fn put_cause(out: &mut Page, at: usize, number: u32) -> usize {
-    let words = refusals::refusal_words(number);
-    let bytes = words.bytes;
-    let n = words.length;
     let at = put(out, at, b": ");
-    let at = put(out, at, &bytes[..n]);
+    let at = put(out, at, refusals::refusal_words(number));
     put(out, at, b"\n")
 }
 

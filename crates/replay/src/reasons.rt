@@ -1,15 +1,12 @@
 // The cause of a refused load in plain words: which column, which variable, which limit.
 use crate::output;
 use crate::output::Page;
-use causes::{Breach, Lack, Limit, Unvalued};
+use causes::{Breach, Lack, Limit, Section, Unvalued};
 use explain::{Cause, Layout};
 
 // What the refusal's number says, where nothing more exact is known.
 fn put_plain(out: &mut Page, at: usize, number: u32) -> usize {
-    let words = refusals::refusal_words(number);
-    let bytes = words.bytes;
-    let n = words.length;
-    output::put(out, at, &bytes[..n])
+    output::put(out, at, refusals::refusal_words(number))
 }
 
 fn put_name(out: &mut Page, at: usize, column: u32) -> usize {
@@ -122,16 +119,22 @@ fn put_order(out: &mut Page, at: usize, word: &[u8], n: u32, last: u32, rule: &[
 }
 
 // `op 2 may not stand in part 1 (reasons), only 1`
-fn put_standing(out: &mut Page, at: usize, op: u32, place: u32) -> usize {
+fn put_standing(out: &mut Page, at: usize, op: u32, place: Section) -> usize {
     let at = output::put_with(out, at, b"op ", op);
     let at = output::put(out, at, b" may not stand in ");
     match place {
-        0 => output::put(out, at, b"set 0, only 40 and 41"),
-        1 => output::put(out, at, b"part 1 (reasons), only 1"),
-        2 => output::put(out, at, b"part 2 (context) of an object rule, only 1 and 2"),
-        3 => output::put(out, at, b"part 2 (context) of a meta rule, only 1 to 14"),
-        4 => output::put(out, at, b"part 3 (body) of an object rule, only 31 to 36"),
-        _ => output::put(out, at, b"part 3 (body) of a meta rule, only 21 to 25"),
+        Section::SetZero => output::put(out, at, b"set 0, only 40 and 41"),
+        Section::Reasons => output::put(out, at, b"part 1 (reasons), only 1"),
+        Section::ObjectContext => {
+            output::put(out, at, b"part 2 (context) of an object rule, only 1 and 2")
+        }
+        Section::MetaContext => {
+            output::put(out, at, b"part 2 (context) of a meta rule, only 1 to 14")
+        }
+        Section::ObjectBody => {
+            output::put(out, at, b"part 3 (body) of an object rule, only 31 to 36")
+        }
+        Section::MetaBody => output::put(out, at, b"part 3 (body) of a meta rule, only 21 to 25"),
     }
 }
 
@@ -164,7 +167,7 @@ fn put_breach(out: &mut Page, at: usize, breach: Breach) -> usize {
         Breach::PartOrder { last, part } => {
             put_order(out, at, b"part", part, last, b": parts do not fall")
         }
-        Breach::Kind(object) => {
+        Breach::Kind { object } => {
             if object {
                 return output::put(
                     out,

@@ -5,16 +5,15 @@ use mathlib.Core.List.{List, []}
 use Prim.Native.Nat.{ℕ, ◌+◌, ◌≤◌}
 use native.Mathlib.Omega.{arith}
 use lib.Dec.{eqb}
-use borrow.Author.Tests.{ne_eqb}
 use Rattle.lists.specs.Lists.{bit}
 use Rattle.lists.proofs.Cuts.{if_either}
 use Rattle.model.specs.declared.Row.{Row}
 use Rattle.model.specs.declared.Scan.{Scan}
-use Rattle.model.specs.Load.{same_rule, lacking, initial, begun, with_ceiling, taken, fault, take_row, passed, at_first}
+use Rattle.model.specs.Load.{same_rule, lacking, initial, begun, taken, fault, take_row, passed, at_first}
 use Rattle.program_laws.proofs.Accepted.{passes}
 use Rattle.program_laws.proofs.Places.{count_begun}
 use Rattle.rows.specs.declared.RuleScan.{RuleScan}
-use Rattle.rows.specs.Scanning.{whole, Small, verdict_of}
+use Rattle.rows.specs.Scanning.{whole, Small}
 
 pub small_first : Small at_first
 unfolding at_first
@@ -66,27 +65,11 @@ module _ (r : Row) where
 pub small_any : (s : RuleScan) (c d : List ℕ) → Small (whole s c) → Small (whole s d)
 small_any s c d w = record { count = w.count; set = w.set; rule = w.rule; atoms = w.atoms; reasons = w.reasons; context = w.context; body = w.body }
 
--- the ways through the tests on a row
-module _ (s : RuleScan) (C : List ℕ) (r : Row) {a b : Bool} (p : a ≡ lacking (whole s C)) (q : b ≡ same_rule (whole s C) r) where
-  pub lacking_refused : a && not b ≡ true → verdict_of (record { number = 3; line = s.count + 1; scan = s }) C ≡ take_row (whole s C) r
-  unfolding take_row verdict_of
-  lacking_refused l = rw (← p, ← q, l)
-
-  module _ (l : a && not b ≡ false) (t : RuleScan) (g : (c : List ℕ) → whole t c ≡ begun (whole s c) r) where
-    pub fault_refused : {n : ℕ} → n ≡ fault (whole s C) (whole t C) r → (n ≡ 0 → ⊥) → verdict_of (record { number = n; line = s.count + 2; scan = s }) C ≡ take_row (whole s C) r
-    unfolding take_row verdict_of
-    fault_refused {n} f z = rw (ne_eqb n 0 z, ← p, ← q, l, ← g C, ← f, ne_eqb n 0 z)
-
-    passed_on : {n : ℕ} → n ≡ fault (whole s C) (whole t C) r → n ≡ 0 → take_row (whole s C) r ≡ passed (taken (whole t C) r)
-    unfolding take_row
-    passed_on {n} f z = rw (← p, ← q, l, ← g C, ← f, z)
-
-    pub row_passed : {n : ℕ} (v : RuleScan) (D : List ℕ) → n ≡ fault (whole s C) (whole t C) r → n ≡ 0 → ((c : List ℕ) → whole v (with_ceiling r c) ≡ taken (whole t c) r) → D ≡ with_ceiling r C →
-        verdict_of (record { number = 0; line = 0; scan = v }) D ≡ take_row (whole s C) r
-    unfolding verdict_of
-    row_passed v D f z e d = ap (λ (x : List ℕ). passed (whole v x)) d ∙ ap passed (e C) ∙ sym (passed_on f z)
-
-    pub begun_small : {n : ℕ} → Small (whole s C) → n ≡ fault (whole s C) (whole t C) r → n ≡ 0 → Small (whole t [])
-    begun_small w f z =
-        let x = (passes (whole s C) r (taken (whole t C) r) (passed_on f z)).accepted in
-        small_any t C [] (subst Small (sym (g C)) (small_begun r w x.set_small x.rule_small))
+-- a row that meets no refusal leaves the scan small as it finds it
+pub begun_small : (s t : RuleScan) (c : List ℕ) (r : Row) → lacking (whole s c) && not (same_rule (whole s c) r) ≡ false → whole t c ≡ begun (whole s c) r →
+    Small (whole s c) → fault (whole s c) (whole t c) r ≡ 0 → Small (whole t [])
+unfolding take_row
+begun_small s t c r l g w f =
+    let passed-on : take_row (whole s c) r ≡ passed (taken (whole t c) r) = rw (l, ← g, f) in
+    let x = (passes (whole s c) r (taken (whole t c) r) passed-on).accepted in
+    small_any t c [] (subst Small (sym g) (small_begun r w x.set_small x.rule_small))

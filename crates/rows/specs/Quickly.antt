@@ -2,39 +2,11 @@
 use Rattle.std.specs.Prelude.{◌≡◌, Bool, true, false, not, ◌&&◌, ◌||◌, List, [], ℕ, ◌+◌, ◌≤◌, ◌<◌, eqb, leb}
 use Rattle.model.specs.declared.Row.{Row}
 use Rattle.model.specs.declared.Scan.{Scan}
-use Rattle.model.specs.Load.{same_rule, lacking, part_full, initial, in_order, set_0_row, query, action, plan_step, rule_row, against_kind, new_variable, valueless, taken, take_row, passed}
+use Rattle.model.specs.Load.{same_rule, lacking, part_full, initial, in_order, set_0_row, names_atom, names_instance, action, plan_step, rule_row, against_kind, new_variable, valueless, taken, take_row, passed}
 use Rattle.model.specs.Render.{in_range}
 use Rattle.rows.specs.declared.quick.Place.{Place}
+pub use Rattle.rows.specs.Scanning.{scan_at}
 use Rattle.rows.specs.Scanning.{Small}
-
--- the scan after k rows: a place with the variables and the ceilings that are lent beside it
-abbrev pub scan_at : Place → ℕ → List ℕ → List ℕ → Scan
-scan_at s k valued ceilings = record {
-  count = k;
-  atoms = s.atoms;
-  set = s.set;
-  rule = s.rule;
-  part = s.part;
-  reasons = s.reasons;
-  context = s.context;
-  body = s.body;
-  object = s.object;
-  valued = valued;
-  ceilings = ceilings;
-}
-
--- the place at a row: what is counted stands as it was
-abbrev pub moved_to : Place → Row → Place
-moved_to t r = record {
-  set = r.set;
-  rule = r.rule;
-  part = r.part;
-  reasons = t.reasons;
-  context = t.context;
-  body = t.body;
-  atoms = t.atoms;
-  object = t.object;
-}
 
 -- a place's numbers: one more fits
 abbrev pub Low : Place → Type 0
@@ -59,10 +31,14 @@ pub record Placed (s : Scan) (r : Row) : Type 0 where
 abbrev pub lacks_value : List ℕ → Row → Bool
 lacks_value valued r = new_variable valued r.a || new_variable valued r.b || (not (eqb r.op 21) && new_variable valued r.i)
 
--- rows of an op that the model takes: a query, a step of a plan, an action, of which no variable lacks a value
-abbrev pub Asking : Row → Type 0
-Asking r = (query r ≡ true) × (r.op ≤ 14)
+-- an atom or an instance named by constants and by variables that have values
+abbrev pub KnownAtom : List ℕ → Row → Type 0
+KnownAtom v r = (names_atom r ≡ true) × (new_variable v r.a ≡ false) × (new_variable v r.b ≡ false)
 
+abbrev pub KnownInstance : List ℕ → Row → Type 0
+KnownInstance v r = (names_instance r ≡ true) × (new_variable v r.i ≡ false)
+
+-- rows of an op that the model takes: a step of a plan, an action, of which no variable lacks a value
 abbrev pub Stepping : List ℕ → Row → Type 0
 Stepping v r = (plan_step r ≡ true) × (lacks_value v r ≡ false) × (r.op ≤ 36)
 

@@ -1,15 +1,17 @@
 -- What the tests on rows ask of a scan, and what their answer says.
-use Rattle.std.specs.Prelude.{List, ℕ, ◌≤◌, eqb, if◌then◌else◌}
+use Rattle.std.specs.Prelude.{List, ℕ, ◌≤◌, Result, Ok, Err}
 use Rattle.model.specs.declared.Scan.{Scan}
+use Rattle.model.specs.declared.refusal.LoadError.{LoadError}
+use Rattle.model.specs.Refusals.{number_of}
 use Rattle.model.specs.Load as Load
 use Rattle.model.specs.Load.{passed, refused_at}
 use Rattle.rows.specs.declared.RuleScan.{RuleScan}
-use Rattle.rows.specs.declared.Verdict.{Verdict}
+use Rattle.rows.specs.declared.quick.Place.{Place}
 
--- with the ceilings that are lent beside it
-abbrev pub whole : RuleScan → List ℕ → Scan
-whole s ceilings = record {
-  count = s.count;
+-- the scan after k rows: a place with the variables and the ceilings that are lent beside it
+abbrev pub scan_at : Place → ℕ → List ℕ → List ℕ → Scan
+scan_at s k valued ceilings = record {
+  count = k;
   atoms = s.atoms;
   set = s.set;
   rule = s.rule;
@@ -18,9 +20,13 @@ whole s ceilings = record {
   context = s.context;
   body = s.body;
   object = s.object;
-  valued = s.valued;
+  valued = valued;
   ceilings = ceilings;
 }
+
+-- with the ceilings that are lent beside it
+abbrev pub whole : RuleScan → List ℕ → Scan
+whole s ceilings = scan_at s.place s.count s.valued ceilings
 
 -- a scan's numbers: one more fits
 pub record Small (s : Scan) : Type 0 where
@@ -32,6 +38,7 @@ pub record Small (s : Scan) : Type 0 where
   pub context : s.context ≤ s.count
   pub body : s.body ≤ s.count
 
--- an answer's number is 0 where the row passed
-unfoldable pub verdict_of : Verdict → List ℕ → Load.Verdict
-verdict_of v ceilings = if eqb v.number 0 then passed (whole v.scan ceilings) else refused_at v.number v.line
+-- the scan after a row that passed, with the ceilings that are lent beside it, or the refusal with its line
+unfoldable pub verdict_of : Result RuleScan LoadError → List ℕ → Load.Verdict
+verdict_of (Ok s) ceilings = passed (whole s ceilings)
+verdict_of (Err e) ceilings = refused_at (number_of e.refusal) e.line

@@ -1,16 +1,17 @@
 -- A word as a number, digit by digit.
 use Prim.Native.Nat.{ℕ, ◌+◌, ◌*◌, ◌-◌, ◌≤◌, ◌<◌}
 use mathlib.Core.Path.{◌≡◌, refl, ap, ◌∙◌, sym}
-use mathlib.Core.Bool.{Bool, true, false, and-false}
+use mathlib.Core.Bool.{Bool, true, false, ◌||◌, and-false}
 use mathlib.Core.List.{List, [], ◌∷◌}
 use mathlib.Core.Logic.{◌≢◌}
 use native.Mathlib.Omega.{arith}
+use lib.Dec.{ltb}
 use lib.ListN.{length, drop, get_or, drop_of_length-le}
 use borrow.Author.Tests.{ne_eqb, le-leb, lt-leb}
 use Rattle.lists.proofs.Cuts.{within_in, within_below, within_above, drop_next}
 use Rattle.model.specs.Text.{digits, digit?}
 use Rattle.program_laws.proofs.Digits.{digits_on, digits_off}
-use Rattle.script.specs.declared.Number.TheVariants.{Value, Unreadable}
+use Rattle.std.specs.Prelude.{Some, None}
 use Rattle.script.specs.Reading.{whole, number_of}
 
 -- digits only raise what there is
@@ -23,7 +24,7 @@ digits_rise n (c ∷ cs) = go (digit? c) refl (digits_rise (n * 10 + (c - 48)) c
     go true t ih = let e = ap (λ (d : ℕ × List ℕ). d.0) (digits_on n c cs t) in omega (arith, e, ih)
     go false t ih = let e = ap (λ (d : ℕ × List ℕ). d.0) (digits_off n c cs t) in omega (arith, e)
 
-too_great : (d : ℕ × List ℕ) → 4294967295 < d.0 → whole d ≡ Unreadable
+too_great : (d : ℕ × List ℕ) → 4294967295 < d.0 → whole d ≡ None
 unfolding whole
 too_great d h = simp (lt-leb _ _ h, and-false)
 
@@ -34,28 +35,28 @@ pub record Reading (word : List ℕ) (value i : ℕ) : Type 0 where
   pub so_far : number_of word ≡ whole (digits value (drop i word))
 
 module _ (word : List ℕ) where
-  pub none : length word ≡ 0 → Unreadable ≡ number_of word
+  pub none : length word ≡ 0 → None ≡ number_of word
   unfolding number_of
   none = at word
     where
-      at : (l : List ℕ) → length l ≡ 0 → Unreadable ≡ number_of l
+      at : (l : List ℕ) → length l ≡ 0 → None ≡ number_of l
       at [] h = refl
       at (c ∷ cs) h = absurd (omega arith)
 
-  pub zero_alone : get_or word 0 0 ≡ 48 → length word ≡ 1 → Value 0 ≡ number_of word
+  pub zero_alone : get_or word 0 0 ≡ 48 → length word ≡ 1 → Some 0 ≡ number_of word
   unfolding number_of
   zero_alone = at word
     where
-      at : (l : List ℕ) → get_or l 0 0 ≡ 48 → length l ≡ 1 → Value 0 ≡ number_of l
+      at : (l : List ℕ) → get_or l 0 0 ≡ 48 → length l ≡ 1 → Some 0 ≡ number_of l
       at [] e h = absurd (omega arith)
       at (c ∷ []) e h = rw e
       at (c ∷ x ∷ cs) e h = absurd (omega arith)
 
-  pub zero_leads : get_or word 0 0 ≡ 48 → length word ≢ 1 → Unreadable ≡ number_of word
+  pub zero_leads : get_or word 0 0 ≡ 48 → length word ≢ 1 → None ≡ number_of word
   unfolding number_of
   zero_leads = at word
     where
-      at : (l : List ℕ) → get_or l 0 0 ≡ 48 → length l ≢ 1 → Unreadable ≡ number_of l
+      at : (l : List ℕ) → get_or l 0 0 ≡ 48 → length l ≢ 1 → None ≡ number_of l
       at [] e h = refl
       at (c ∷ []) e h = absurd (h refl)
       at (c ∷ x ∷ cs) e h = rw e
@@ -69,27 +70,30 @@ module _ (word : List ℕ) where
       at (c ∷ cs) h k = rw (ne_eqb c 48 k)
 
 module _ {word : List ℕ} {v i : ℕ} (w : Reading word v i) where
-  no_digit : i < length word → digit? (get_or word i 0) ≡ false → Unreadable ≡ number_of word
+  abbrev d : ℕ
+  d = get_or word i 0
+
+  not_digit : ltb d 48 || ltb 57 d ≡ true → digit? d ≡ false
+  not_digit e = grind arith
+
+  is_digit : ltb d 48 || ltb 57 d ≡ false → digit? d ≡ true
+  is_digit e = grind arith
+
+  pub no_digit : i < length word → ltb d 48 || ltb 57 d ≡ true → None ≡ number_of word
   unfolding whole
-  no_digit k e = sym (w.so_far ∙ rw (drop_next 0 word i k, digits_off v (get_or word i 0) (drop (i + 1) word) e))
+  no_digit k e = sym (w.so_far ∙ rw (drop_next 0 word i k, digits_off v d (drop (i + 1) word) (not_digit e)))
 
-  pub below : i < length word → get_or word i 0 < 48 → Unreadable ≡ number_of word
-  below k h = no_digit k (within_below _ _ _ h)
+  goes_on : i < length word → ltb d 48 || ltb 57 d ≡ false → number_of word ≡ whole (digits (v * 10 + (d - 48)) (drop (i + 1) word))
+  goes_on k e = w.so_far ∙ rw (drop_next 0 word i k, digits_on v d (drop (i + 1) word) (is_digit e))
 
-  pub above : i < length word → 57 < get_or word i 0 → Unreadable ≡ number_of word
-  above k h = no_digit k (within_above _ _ _ h)
+  pub over : i < length word → ltb d 48 || ltb 57 d ≡ false → 4294967295 < v * 10 + (d - 48) → None ≡ number_of word
+  over k e m =
+      let r = digits_rise (v * 10 + (d - 48)) (drop (i + 1) word) in
+      sym (goes_on k e ∙ too_great _ (omega (arith, r, m)))
 
-  goes_on : i < length word → 48 ≤ get_or word i 0 → get_or word i 0 ≤ 57 → number_of word ≡ whole (digits (v * 10 + (get_or word i 0 - 48)) (drop (i + 1) word))
-  goes_on k h l = w.so_far ∙ rw (drop_next 0 word i k, digits_on v (get_or word i 0) (drop (i + 1) word) (within_in _ _ _ h l))
+  pub more : i < length word → ltb d 48 || ltb 57 d ≡ false → (n : ℕ) → n ≡ v * 10 + (d - 48) → n ≤ 4294967295 → Reading word n (i + 1)
+  more k e n q m = record { inside = omega arith; small = m; so_far = goes_on k e ∙ ap (λ (x : ℕ). whole (digits x (drop (i + 1) word))) (sym q) }
 
-  pub over : i < length word → 48 ≤ get_or word i 0 → get_or word i 0 ≤ 57 → 4294967295 < v * 10 + (get_or word i 0 - 48) → Unreadable ≡ number_of word
-  over k h l m =
-      let r = digits_rise (v * 10 + (get_or word i 0 - 48)) (drop (i + 1) word) in
-      sym (goes_on k h l ∙ too_great _ (omega (arith, r, m)))
-
-  pub more : i < length word → 48 ≤ get_or word i 0 → get_or word i 0 ≤ 57 → v * 10 + (get_or word i 0 - 48) ≤ 4294967295 → Reading word (v * 10 + (get_or word i 0 - 48)) (i + 1)
-  more k h l m = record { inside = omega arith; small = m; so_far = goes_on k h l }
-
-  pub all_read : length word ≤ i → Value v ≡ number_of word
+  pub all_read : length word ≤ i → Some v ≡ number_of word
   unfolding whole digits
   all_read h = sym (w.so_far ∙ rw (drop_of_length-le word h, le-leb _ _ w.small))

@@ -12,10 +12,9 @@ use lib.Seq.{drop-drop, length-take-le, set-append_seam, get_or-append_seam}
 use mathlib.Core.Logic.{◌≢◌}
 use Rattle.lists.specs.Lists.{bit}
 use Rattle.lists.proofs.Cuts.{drop_next}
-use Rattle.script.specs.declared.Number.TheVariants.{Value, Unreadable}
-use Rattle.script.specs.declared.Found.{Found}
-use Rattle.script.specs.declared.Found.TheVariants.{Numbers, Miscounted, NoNumber}
-use Rattle.script.specs.Reading.{number_of, first_word, later_words, words_from, before, leading, spaces_in, WordEnds, Within, Reads, InFours, in_a_row, last_row, cut_short}
+use Rattle.std.specs.Prelude.{Some, None, Ok, Err}
+use Rattle.script.specs.declared.Misread.TheVariants.{Miscounted, NoNumber}
+use Rattle.script.specs.Reading.{Found, number_of, first_word, later_words, words_from, before, leading, spaces_in, WordEnds, Within, Reads, InFours, in_a_row, last_row, cut_short}
 
 -- behind the first word the later ones begin
 later_from : (l : List ℕ) → later_words l ≡ words_from (drop (length (first_word l)) l)
@@ -86,7 +85,7 @@ module _ {line : List ℕ} {from : ℕ} {lent out : List ℕ} {at k : ℕ} (w : 
     unfolding leading
     leads = rw (next_word h e)
 
-    pub passes : (n : ℕ) → Value n ≡ number_of (take (to - (at + 1)) (drop (at + 1) line)) → Passing line from lent (set out k n) to (k + 1)
+    pub passes : (n : ℕ) → Some n ≡ number_of (take (to - (at + 1)) (drop (at + 1) line)) → Passing line from lent (set out k n) to (k + 1)
     passes n v =
         let a = w.few in
         let b = w.room in
@@ -94,7 +93,7 @@ module _ {line : List ℕ} {from : ℕ} {lent out : List ℕ} {at k : ℕ} (w : 
         let p = w.past_count in
         let d = w.done_count in
         let l = e.low in
-        let q : number_of (first_word (drop (at + 1) line)) ≡ Value n = ap number_of (sym e.word) ∙ sym v in
+        let q : number_of (first_word (drop (at + 1) line)) ≡ Some n = ap number_of (sym e.word) ∙ sym v in
         let i : k < length lent = omega arith in
         record {
           inside = e.high;
@@ -110,11 +109,11 @@ module _ {line : List ℕ} {from : ℕ} {lent out : List ℕ} {at k : ℕ} (w : 
           stored = rw (w.stored, drop_next 0 lent k i, append_assoc) (ap (λ (j : ℕ). set (w.done ++ (get_or lent k 0 ∷ drop (k + 1) lent)) j n) (sym d) ∙ set-append_seam w.done (get_or lent k 0) (drop (k + 1) lent) n);
         }
 
-    pub stops : Unreadable ≡ number_of (take (to - (at + 1)) (drop (at + 1) line)) → Reads line from lent out (NoNumber k (at + 1) to)
+    pub stops : None ≡ number_of (take (to - (at + 1)) (drop (at + 1) line)) → Reads line from lent out (Err (NoNumber k (at + 1) to))
     stops v =
         let p = w.past_count in
         let d = w.done_count in
-        let q : number_of (first_word (drop (at + 1) line)) ≡ Unreadable = ap number_of (sym e.word) ∙ sym v in
+        let q : number_of (first_word (drop (at + 1) line)) ≡ None = ap number_of (sym e.word) ∙ sym v in
         let f : leading (words_from (drop from line)) ≡ w.done = w.lead ∙ rw (leads, q, append-nil) in
         let g : words_from (drop from line) ≡ w.past ++ (first_word (drop (at + 1) line) ∷ words_from (drop to line)) = w.words ∙ rw (next_word h e) in
         let s : length (words_from (drop from line)) ≡ length w.past + suc (length (words_from (drop to line))) = ap length g ∙ length-append w.past (first_word (drop (at + 1) line) ∷ words_from (drop to line)) in
@@ -123,7 +122,7 @@ module _ {line : List ℕ} {from : ℕ} {lent out : List ℕ} {at k : ℕ} (w : 
           found = (omega (arith, s, p), sym (ap length f ∙ d), e, rw (g, ← p) (get_or-append_seam w.past (first_word (drop (at + 1) line)) (words_from (drop to line)) []));
         }
 
-  pub ends : length line ≤ at → Reads line from lent out (Numbers k)
+  pub ends : length line ≤ at → Reads line from lent out (Ok k)
   unfolding leading
   ends h =
       let p = w.past_count in
@@ -153,27 +152,27 @@ enough_words (c ∷ cs) = go (eqb c 32) (few_spaces cs)
     go false h = omega arith
 
 module _ {line : List ℕ} {from : ℕ} {lent left : List ℕ} {there over : ℕ} (e : there ≡ spaces_in (drop from line)) (o : over ≡ there % 4) (z : over ≢ 0) where
-  pub short_row : (f : Found) → Reads line from lent left f → InFours line from lent left (cut_short (there - over) over f)
-  short_row (Numbers count) w =
+  pub short_row : (f : Found) → Reads line from lent left f → InFours line from lent left (Err (cut_short (there - over) over f))
+  short_row (Ok count) w =
       let a = w.found.0 in
       let b = w.found.1 in
       let n = enough_words (drop from line) in
       last_row e o z (omega arith)
-  short_row (Miscounted wanted told) w = absurd w.found
-  short_row (NoNumber k begin to) w = go (leb (there - over) k) refl
+  short_row (Err (Miscounted wanted told)) w = absurd w.found
+  short_row (Err (NoNumber k begin to)) w = go (leb (there - over) k) refl
     where
-      go : (b : Bool) → leb (there - over) k ≡ b → InFours line from lent left (if b then Miscounted 4 over else NoNumber k begin to)
+      go : (b : Bool) → leb (there - over) k ≡ b → InFours line from lent left (Err (if b then Miscounted 4 over else NoNumber k begin to))
       go true t =
           let h = leb-true (there - over) k t in
           let q = w.found.1 in
           last_row e o z (omega arith)
       go false t = let h = leb-false (there - over) k t in let i : k < there - there % 4 = omega arith in in_a_row e i w
 
-pub short_within : (n whole over : ℕ) (f : Found) → Within n f → Within n (cut_short whole over f)
-short_within n whole over (Numbers count) w = tt
-short_within n whole over (Miscounted wanted told) w = tt
-short_within n whole over (NoNumber k begin to) w = go (leb whole k)
+pub short_within : (n whole over : ℕ) (f : Found) → Within n f → Within n (Err (cut_short whole over f))
+short_within n whole over (Ok count) w = tt
+short_within n whole over (Err (Miscounted wanted told)) w = tt
+short_within n whole over (Err (NoNumber k begin to)) w = go (leb whole k)
   where
-    go : (b : Bool) → Within n (if b then Miscounted 4 over else NoNumber k begin to)
+    go : (b : Bool) → Within n (Err (if b then Miscounted 4 over else NoNumber k begin to))
     go true = tt
     go false = w

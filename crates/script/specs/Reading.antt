@@ -1,22 +1,20 @@
 -- What the reader of a script's line answers.
-use Rattle.std.specs.Prelude.{◌≡◌, Bool, true, false, ◌&&◌, ◌||◌, ◌≢◌, List, [], ◌∷◌, ◌++◌, ℕ, ◌+◌, ◌-◌, ◌%◌, ◌≤◌, ◌<◌, eqb, leb, length, take, drop, get_or, if◌then◌else◌}
+use Rattle.std.specs.Prelude.{Option, Some, None, Result, Ok, Err, ◌≡◌, Bool, true, false, ◌&&◌, ◌||◌, ◌≢◌, List, [], ◌∷◌, ◌++◌, ℕ, ◌+◌, ◌-◌, ◌%◌, ◌≤◌, ◌<◌, eqb, leb, length, take, drop, get_or, if◌then◌else◌}
 use Rattle.lists.specs.Lists.{bit, every, is_empty, same}
 use Rattle.model.specs.Text.{digits, bytes}
 use Rattle.script.specs.declared.Command.{Command}
 use Rattle.script.specs.declared.Command.TheVariants.{Load, Program, Sense, Step, Answer, Delete, Run, Trace, Show, Dump, Config, Atom, Plan, Clock, Unknown}
-use Rattle.script.specs.declared.Number.{Number}
-use Rattle.script.specs.declared.Number.TheVariants.{Value, Unreadable}
-use Rattle.script.specs.declared.Found.{Found}
-use Rattle.script.specs.declared.Found.TheVariants.{Numbers, Miscounted, NoNumber}
+use Rattle.script.specs.declared.Misread.{Misread}
+use Rattle.script.specs.declared.Misread.TheVariants.{Miscounted, NoNumber}
 
 -- digits and nothing behind them, at most 4,294,967,295
-unfoldable pub whole : ℕ × List ℕ → Number
-whole d = if is_empty d.1 && leb d.0 4294967295 then Value d.0 else Unreadable
+unfoldable pub whole : ℕ × List ℕ → Option ℕ
+whole d = if is_empty d.1 && leb d.0 4294967295 then Some d.0 else None
 
 -- a number in base ten, with no sign and no leading zero
-unfoldable pub number_of : List ℕ → Number
-number_of [] = Unreadable
-number_of (c ∷ cs) = if eqb c 48 then (if is_empty cs then Value 0 else Unreadable) else whole (digits 0 (c ∷ cs))
+unfoldable pub number_of : List ℕ → Option ℕ
+number_of [] = None
+number_of (c ∷ cs) = if eqb c 48 then (if is_empty cs then Some 0 else None) else whole (digits 0 (c ∷ cs))
 
 -- blank lines, and lines that begin with `#`
 unfoldable pub passed_over : List ℕ → Bool
@@ -49,26 +47,30 @@ unfoldable pub words_from : List ℕ → List (List ℕ)
 words_from [] = []
 words_from (c ∷ cs) = first_word cs ∷ later_words cs
 
-abbrev pub before : Number → List ℕ → List ℕ
-before (Value n) ns = n ∷ ns
-before Unreadable ns = []
+abbrev pub before : Option ℕ → List ℕ → List ℕ
+before (Some n) ns = n ∷ ns
+before None ns = []
 
 -- the numbers of the words up to the first that is none
 unfoldable pub leading : List (List ℕ) → List ℕ
 leading [] = []
 leading (w ∷ ws) = before (number_of w) (leading ws)
 
+-- the numbers of a line: how many there are, or why they are not as they are wanted
+abbrev pub Found : Type 0
+Found = Result ℕ Misread
+
 -- what was found stands within a line of n bytes
 abbrev pub Within : ℕ → Found → Type 0
-Within n (Numbers count) = count ≤ n
-Within n (Miscounted wanted there) = Unit {0}
-Within n (NoNumber k from to) = (from ≤ to) × (to ≤ n)
+Within n (Ok count) = count ≤ n
+Within n (Err (Miscounted wanted there)) = Unit {0}
+Within n (Err (NoNumber k from to)) = (from ≤ to) × (to ≤ n)
 
 -- what was found of words: all are numbers, or word k is the first that is none
 abbrev pub Finds : List ℕ → List (List ℕ) → Found → Type 0
-Finds line ws (Numbers count) = (count ≡ length ws) × (count ≡ length (leading ws))
-Finds line ws (Miscounted wanted there) = ⊥
-Finds line ws (NoNumber k from to) =
+Finds line ws (Ok count) = (count ≡ length ws) × (count ≡ length (leading ws))
+Finds line ws (Err (Miscounted wanted there)) = ⊥
+Finds line ws (Err (NoNumber k from to)) =
     (k < length ws) × (k ≡ length (leading ws)) × (WordEnds line from to) × (get_or ws k [] ≡ first_word (drop from line))
 
 -- the numbers stand first in the array, and behind them what stood there
@@ -79,21 +81,21 @@ pub record Reads (line : List ℕ) (from : ℕ) (lent left : List ℕ) (r : Foun
 -- as many numbers as are wanted, one behind each space
 pub data Exact (line : List ℕ) (from wanted : ℕ) (lent left : List ℕ) : Found → Type 0 where
   counted : {r : Found} → spaces_in (drop from line) ≡ wanted → Reads line from lent left r → Exact line from wanted lent left r
-  miscounted : {there : ℕ} → there ≡ spaces_in (drop from line) → there ≢ wanted → left ≡ lent → Exact line from wanted lent left (Miscounted wanted there)
+  miscounted : {there : ℕ} → there ≡ spaces_in (drop from line) → there ≢ wanted → left ≡ lent → Exact line from wanted lent left (Err (Miscounted wanted there))
 
 -- rows of four numbers: a word of a whole row that is no number is told before the count of the last row
 pub data InFours (line : List ℕ) (from : ℕ) (lent left : List ℕ) : Found → Type 0 where
   whole_rows : {there : ℕ} {r : Found} → there ≡ spaces_in (drop from line) → there % 4 ≡ 0 → Reads line from lent left r → InFours line from lent left r
-  in_a_row : {there k begin to : ℕ} → there ≡ spaces_in (drop from line) → k < there - there % 4 → Reads line from lent left (NoNumber k begin to)
-      → InFours line from lent left (NoNumber k begin to)
+  in_a_row : {there k begin to : ℕ} → there ≡ spaces_in (drop from line) → k < there - there % 4 → Reads line from lent left (Err (NoNumber k begin to))
+      → InFours line from lent left (Err (NoNumber k begin to))
   last_row : {there over : ℕ} → there ≡ spaces_in (drop from line) → over ≡ there % 4 → over ≢ 0
-      → there - over ≤ length (leading (words_from (drop from line))) → InFours line from lent left (Miscounted 4 over)
+      → there - over ≤ length (leading (words_from (drop from line))) → InFours line from lent left (Err (Miscounted 4 over))
 
 -- what is told where the last row has numbers over: a word of a whole row that is none comes before it
-abbrev pub cut_short : ℕ → ℕ → Found → Found
-cut_short whole over (Numbers count) = Miscounted 4 over
-cut_short whole over (Miscounted wanted there) = Miscounted wanted there
-cut_short whole over (NoNumber k from to) = if leb whole k then Miscounted 4 over else NoNumber k from to
+abbrev pub cut_short : ℕ → ℕ → Found → Misread
+cut_short whole over (Ok count) = Miscounted 4 over
+cut_short whole over (Err (Miscounted wanted there)) = Miscounted wanted there
+cut_short whole over (Err (NoNumber k from to)) = if leb whole k then Miscounted 4 over else NoNumber k from to
 
 -- the command that a word is: of the bench, or a call
 unfoldable pub bench_named : List ℕ → Command

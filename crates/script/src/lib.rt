@@ -1,7 +1,8 @@
 // A line of a script: its words, which command it is, its numbers.
 #![tactic(auto)]
 
-ghost use Rattle.std.specs.Prelude.{◌≡◌, ◌≤◌, length, drop};
+ghost use Rattle.std.specs.Prelude.{◌≡◌, ◌==◌, ◌≤◌, length, drop, count_by, position};
+ghost use Rattle.std.specs.List.{list_all};
 ghost use Rattle.lists.specs.Lists.{same};
 ghost use Rattle.script.specs.Reading.{number_of, passed_over, spaces_in, Within, WordEnds, Reads, Exact, InFours, cut_short, bench_named, command_named};
 
@@ -24,65 +25,54 @@ pub enum Command {
     Unknown,
 }
 
-// A word as a number.
+// Why a line's numbers are not as they are wanted: another number of words; or the first word that is no number, the k-th from 0 on,
+// which stands from one place to another.
 #[derive(Clone, Copy)]
-pub enum Number {
-    Value(u32),
-    Unreadable,
-}
-
-// The numbers of a line: how many there are; or another number of words than is wanted; or the first word that is no number, the
-// k-th from 0 on, which stands from one place to another.
-#[derive(Clone, Copy)]
-pub enum Found {
-    Numbers(usize),
+pub enum Misread {
     Miscounted { wanted: usize, there: usize },
     NoNumber { k: usize, from: usize, to: usize },
 }
 
-// Two texts are the same.
+// kept: (c) a `match` on the bytes of a word leaves 73 goals, 59 of them for its last arm; so words are compared one by one
 fn is_same(a: &[u8], b: &[u8]) -> bool
     ensures { result ≡ same a.now b.now }
 {
-    if a.len() != b.len() {
-        return false;
-    }
-    let mut i: usize = 0;
-    while i < a.len() {
-        if a[i] != b[i] {
-            return false;
-        }
-        i += 1;
-    }
-    true
+    a == b
+}
+
+fn is_blank(text: &[u8]) -> bool
+    ensures { result ≡ list_all (λ x. x == 32) text.now }
+{
+    text.iter().all(|b| *b == 32)
+}
+
+fn count_spaces(text: &[u8]) -> usize
+    ensures { result ≡ count_by (λ x. x == 32) text.now }
+{
+    text.iter().filter(|b| **b == 32).count()
+}
+
+fn first_space(text: &[u8]) -> Option<usize>
+    ensures { result ≡ position (λ x. x == 32) text.now }
+{
+    text.iter().position(|b| *b == 32)
 }
 
 // Blank lines and lines that begin with `#` are passed over.
 pub fn is_passed_over(line: &[u8]) -> bool
     ensures { result ≡ passed_over line.now }
 {
-    if line.len() == 0 {
-        return true;
-    }
-    if line[0] == 35 {
-        return true;
-    }
-    spaces(line, 0) == line.len()
+    line.starts_with(b"#") || is_blank(line)
 }
 
 // How many words begin behind a space from a place on.
 pub fn spaces(line: &[u8], from: usize) -> usize
     ensures { result ≡ spaces_in (drop from line.now) }
 {
-    let mut n: usize = 0;
-    let mut i = from;
-    while i < line.len() {
-        if line[i] == 32 {
-            n += 1;
-        }
-        i += 1;
+    if line.len() < from {
+        return 0;
     }
-    n
+    count_spaces(&line[from..])
 }
 
 // Where a word ends that begins at a place: at the next space, or with the line.
@@ -90,17 +80,14 @@ pub fn word_end(line: &[u8], from: usize) -> usize
     requires { from ≤ length line.now }
     ensures { WordEnds line.now from result }
 {
-    let mut i = from;
-    while i < line.len() {
-        if line[i] == 32 {
-            return i;
-        }
-        i += 1;
+    match first_space(&line[from..]) {
+        Some(n) => from + n,
+        None => line.len(),
     }
-    i
 }
 
 // The command of the bench that a word is.
+#[tactic(auto, unfolding(crate::specs::Reading::bench_named, model::specs::Text::bytes))]
 fn bench_command(word: &[u8]) -> Command
     ensures { result ≡ bench_named word.now }
 {
@@ -129,6 +116,7 @@ fn bench_command(word: &[u8]) -> Command
 }
 
 // The command that a word is.
+#[tactic(auto, unfolding(crate::specs::Reading::command_named, model::specs::Text::bytes))]
 pub fn command_of(word: &[u8]) -> Command
     ensures { result ≡ command_named word.now }
 {
@@ -157,99 +145,80 @@ pub fn command_of(word: &[u8]) -> Command
 }
 
 // A number from 0 to 4,294,967,295 in base ten, with no sign and no leading zero.
-pub fn read_number(word: &[u8]) -> Number
+pub fn read_number(word: &[u8]) -> Option<u32>
     ensures { result ≡ number_of word.now }
 {
     if word.len() == 0 {
-        return Number::Unreadable;
+        return None;
     }
     if word[0] == 48 {
-        if word.len() == 1 {
-            return Number::Value(0);
-        }
-        return Number::Unreadable;
+        return if word.len() == 1 { Some(0) } else { None };
     }
-    let mut value: u64 = 0;
-    let mut i: usize = 0;
-    while i < word.len() {
-        let d = word[i];
-        if d < 48 {
-            return Number::Unreadable;
+    let mut value: u32 = 0;
+    for d in word {
+        if (*d < 48) | (57 < *d) {
+            return None;
         }
-        if 57 < d {
-            return Number::Unreadable;
-        }
-        value = value * 10 + (d - 48) as u64;
-        if 4294967295 < value {
-            return Number::Unreadable;
-        }
-        i += 1;
+        value = value.checked_mul(10)?.checked_add((*d - 48) as u32)?;
     }
-    Number::Value(value as u32)
+    Some(value)
 }
 
 // The numbers of the words from a place on, where a space stands or the line ends.
-fn numbers(line: &[u8], from: usize, out: &mut [u32]) -> Found
+fn numbers(line: &[u8], from: usize, out: &mut [u32]) -> Result<usize, Misread>
     requires { (from ≤ length line.now) × (length line.now ≤ length out.old) }
     ensures within { Within (length line.now) result }
     ensures read { Reads line.now from out.old out.new result }
 {
+    // kept: (d) the words' places are told, and a `for` over `out` would end where no line ends
     let mut at = from;
     let mut k: usize = 0;
     while at < line.len() {
         let begin = at + 1;
         let end = word_end(line, begin);
-        let Number::Value(n) = read_number(&line[begin..end]) else {
-            return Found::NoNumber {
+        let Some(n) = read_number(&line[begin..end]) else {
+            return Err(Misread::NoNumber {
                 k,
                 from: begin,
                 to: end,
-            };
+            });
         };
         out[k] = n;
         k += 1;
         at = end;
     }
-    Found::Numbers(k)
+    Ok(k)
 }
 
 // As many numbers as are wanted.
-pub fn exactly(line: &[u8], from: usize, wanted: usize, out: &mut [u32]) -> Found
+pub fn exactly(line: &[u8], from: usize, wanted: usize, out: &mut [u32]) -> Result<usize, Misread>
     requires { (from ≤ length line.now) × (length line.now ≤ length out.old) }
     ensures within { Within (length line.now) result }
     ensures read { Exact line.now from wanted out.old out.new result }
 {
     let there = spaces(line, from);
     if there != wanted {
-        return Found::Miscounted { wanted, there };
+        return Err(Misread::Miscounted { wanted, there });
     }
     numbers(line, from, out)
 }
 
 // What is told where the last row lacks numbers: a word of a whole row that is none comes before it.
-fn cut_short(found: Found, whole: usize, over: usize) -> Found
+fn cut_short(found: Result<usize, Misread>, whole: usize, over: usize) -> Misread
     ensures { result ≡ cut_short whole over found }
 {
     match found {
-        Found::NoNumber { k, from, to } => {
-            if whole <= k {
-                return Found::Miscounted {
-                    wanted: 4,
-                    there: over,
-                };
-            }
-            Found::NoNumber { k, from, to }
-        }
-        Found::Numbers(_) => Found::Miscounted {
+        Err(Misread::NoNumber { k, from, to }) if k < whole => Misread::NoNumber { k, from, to },
+        Err(Misread::Miscounted { wanted, there }) => Misread::Miscounted { wanted, there },
+        _ => Misread::Miscounted {
             wanted: 4,
             there: over,
         },
-        Found::Miscounted { wanted, there } => Found::Miscounted { wanted, there },
     }
 }
 
 // Rows of four numbers. Whole rows are read before the count of the last is told.
-pub fn in_fours(line: &[u8], from: usize, out: &mut [u32]) -> Found
+pub fn in_fours(line: &[u8], from: usize, out: &mut [u32]) -> Result<usize, Misread>
     requires { (from ≤ length line.now) × (length line.now ≤ length out.old) }
     ensures within { Within (length line.now) result }
     ensures read { InFours line.now from out.old out.new result }
@@ -260,5 +229,5 @@ pub fn in_fours(line: &[u8], from: usize, out: &mut [u32]) -> Found
     if over == 0 {
         return found;
     }
-    cut_short(found, there - over, over)
+    Err(cut_short(found, there - over, over))
 }

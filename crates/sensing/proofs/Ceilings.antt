@@ -2,8 +2,6 @@
 use mathlib.Core.Path.{◌≡◌, refl, sym, ap, ◌∙◌}
 use mathlib.Core.Bool.{Bool, true, false, ◌&&◌, false≢true}
 use mathlib.Core.List.{List}
-use mathlib.Core.Logic.{⊎_elim, ◌≢◌}
-use Rattle.lists.proofs.Tables.{equal_or_not, less_or_more}
 use lib.Dec.{eqb, leb}
 use Rattle.sensing.specs.Sensing.{is_ceiling, Bare}
 use Prim.Native.Nat.{ℕ, zero, suc, ◌+◌, ◌-◌, ◌/◌, ◌<◌, ◌≤◌}
@@ -75,26 +73,5 @@ pub record Looked (words : List ℕ) (from to k : ℕ) : Type 0 where
   pub first : (i : ℕ) → i < from → is_ceiling (row_at words i) ≡ false
   pub last : (i : ℕ) → to ≤ i → i < k → is_ceiling (row_at words i) ≡ false
 
-module _ (words : List ℕ) where
-  pub looked_none : Looked words 0 0 0
-  looked_none = record { ordered = omega arith; inside = omega arith; first = λ i h. absurd (omega arith); last = λ i h g. absurd (omega arith) }
-
-  pub looked_bare : (from to k : ℕ) → is_ceiling (row_at words k) ≡ false → Looked words from to k → Looked words from to (k + 1)
-  looked_bare from to k e l = let o = l.inside in record {
-    ordered = l.ordered;
-    inside = omega arith;
-    first = l.first;
-    last = λ i h g. ⊎_elim (λ (q : i ≡ k). ap (λ (m : ℕ). is_ceiling (row_at words m)) q ∙ e) (λ (ne : i ≢ k). l.last i h (below i ne g)) (equal_or_not i k);
-  }
-    where
-      below : (i : ℕ) → i ≢ k → i < k + 1 → i < k
-      below i ne g = ⊎_elim (λ (q : i < k). q) (λ (q : k < i). absurd (omega arith)) (less_or_more i k ne)
-
-  pub looked_first : (from k : ℕ) → Looked words from 0 k → Looked words k (k + 1) (k + 1)
-  looked_first from k l = record { ordered = omega arith; inside = omega arith; first = λ i h. l.last i (omega arith) h; last = λ i h g. absurd (omega arith) }
-
-  pub looked_next : (from to k : ℕ) → Looked words from to k → Looked words from (k + 1) (k + 1)
-  looked_next from to k l = let o = l.ordered in let p = l.inside in record { ordered = omega arith; inside = omega arith; first = l.first; last = λ i h g. absurd (omega arith) }
-
-  pub looked_all : (from to k : ℕ) → k ≤ length words / 8 → length words / 8 ≤ k → Looked words from to k → Bare words from to
-  looked_all from to k h g l = let p = l.inside in record { ordered = l.ordered; inside = omega arith; before = l.first; behind = λ i q r. l.last i q (omega arith) }
+-- what `taken_as` rests on
+pub ruleset taking = (left_hit, left_skip, bare_first, bare_last)

@@ -241,3 +241,6 @@ withdrawing_first p a b words s r = record {
   sum = omega arith;
   rest = λ L q. (L, q, omega arith, ap (λ (l : List ℕ). withdraw l L) (equal_all p a b (config_of words s) ∙ ap (equal_from p a b 0) (sym q)));
 }
+
+-- what `withdraw` rests on
+pub ruleset withdrawing = (withdrawing_first, withdrawing_on, withdrawing_take, withdrawing_end, fewer, counts_after)

@@ -1,14 +1,17 @@
 -- What the work of sense leaves, whatever the log holds already.
-use Rattle.std.specs.Prelude.{◌≡◌, Bool, false, ◌&&◌, eqb, List, map, ℕ, ◌+◌, ◌/◌, ◌<◌, ◌≤◌, length, get_or}
+use Rattle.std.specs.Prelude.{◌≡◌, Bool, false, ◌&&◌, eqb, List, map, ℕ, ◌+◌, ◌/◌, ◌<◌, ◌≤◌, length, get_or, Result, IsErrAnd, IsOkAnd}
 use Rattle.lists.specs.Lists.{count_up}
 use Rattle.table.specs.Rows.{row}
 use Rattle.model.specs.declared.Row.{Row}
+use Rattle.model.specs.declared.refusal.Refusal.{Refusal}
+use Rattle.model.specs.Refusals.{number_of}
 use Rattle.model.specs.Configuration.{Config, last_next}
 use Rattle.model.specs.Log.{Log, Outcome, refused, accepted}
 use Rattle.model.specs.Calls.{Reading, equal_atoms, withdraw, sense_row, sense_rows}
 use Rattle.program.specs.Rows.{row_at}
 use Rattle.state.specs.declared.Scalars.{Scalars}
-use Rattle.state.specs.View.{SoundWords}
+use Rattle.state.specs.View.{config_of, SoundWords}
+use Rattle.deletion.specs.declared.Removal.{Removal}
 use Rattle.sensing.specs.declared.Reading as Declared
 
 abbrev pub reading_of : Declared.Reading → Reading
@@ -26,20 +29,20 @@ pub record Ready (words : List ℕ) (s : Scalars) : Type 0 where
   pub whole : SoundWords words s
   pub next_fits : s.next ≤ last_next
 
--- an outcome as the code shows it: its number, and if that is 0 the configuration and how many went
-abbrev pub Shows : Outcome → ℕ → Config → ℕ → Type 0
-Shows (refused n) number d gone = (1 ≤ n) × (number ≡ n)
-Shows (accepted L) number d gone = (number ≡ 0) × (L.config ≡ d) × (L.gone ≡ gone)
+-- an outcome as the code shows it: the refusal, or the configuration in the words and how many went, besides those that went before
+abbrev pub Shows : Outcome → ℕ → List ℕ → Result Removal Refusal → Type 0
+Shows (refused n) before words r = IsErrAnd r (λ e. n ≡ number_of e)
+Shows (accepted L) before words r = IsOkAnd r (λ x. (L.config ≡ config_of words x.scalars) × (L.gone ≡ before + x.gone))
 
 pub record Withdraws (p a b : ℕ) (c d : Config) (gone : ℕ) : Type 0 where
   pub leaves : (L : Log) → L.config ≡ c → (withdraw (equal_atoms p a b c) L).config ≡ d
   pub counts : (L : Log) → L.config ≡ c → (withdraw (equal_atoms p a b c) L).gone ≡ L.gone + gone
 
-unfoldable pub SensesRow : List Row → Reading → Config → ℕ → Config → ℕ → Type 0
-SensesRow program r c number d gone = (L : Log) → L.config ≡ c → Shows (sense_row program r L) number d (L.gone + gone)
+unfoldable pub SensesRow : List Row → Reading → Config → List ℕ → Result Removal Refusal → Type 0
+SensesRow program r c words result = (L : Log) → L.config ≡ c → Shows (sense_row program r L) L.gone words result
 
-unfoldable pub SensesRows : List Row → List Reading → Config → ℕ → Config → ℕ → Type 0
-SensesRows program rs c number d gone = (L : Log) → L.config ≡ c → Shows (sense_rows program rs L) number d (L.gone + gone)
+unfoldable pub SensesRows : List Row → List Reading → Config → List ℕ → Result Removal Refusal → Type 0
+SensesRows program rs c words result = (L : Log) → L.config ≡ c → Shows (sense_rows program rs L) L.gone words result
 
 -- a row of set 0 and op 40
 abbrev pub is_ceiling : Row → Bool

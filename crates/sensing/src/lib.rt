@@ -1,7 +1,7 @@
 // The work of sense, in place: readings added and withdrawn, row by row.
 #![tactic(auto)]
 
-ghost use Rattle.std.specs.Prelude.{◌≡◌, true, ◌+◌, ◌-◌, ◌*◌, ◌/◌, ◌<◌, ◌≤◌, length};
+ghost use Rattle.std.specs.Prelude.{◌≡◌, true, ◌+◌, ◌-◌, ◌*◌, ◌/◌, ◌<◌, ◌≤◌, length, IfOk};
 ghost use Rattle.lists.specs.Lists.{every};
 ghost use Rattle.program.specs.Rows.{row_at, rows_of};
 ghost use Rattle.state.specs.View.{atom_at, config_of};
@@ -9,7 +9,7 @@ ghost use Rattle.model.specs.Calls.{in_range as is_in_range, applies as does-app
 ghost use Rattle.sensing.specs.Sensing.{reading_of, reading_at, readings_from, Ready, Withdraws, SensesRow, SensesRows, is_ceiling, Bare};
 
 use deletion::Removal;
-use model::Row;
+use model::{Refusal, Row};
 use state::Scalars;
 
 // A row of sense.
@@ -21,15 +21,8 @@ pub struct Reading {
     pub b: u32,
 }
 
-// What a work leaves: a refusal's number or 0, the scalars, how many instances went.
-#[derive(Clone, Copy)]
-pub struct Work {
-    pub scalars: Scalars,
-    pub gone: u32,
-    pub number: u32,
-}
-
 // The row is a ceiling that applies to the reading.
+#[tactic(auto, unfolding(model::specs::Calls::applies))]
 fn applies(r: Row, reading: Reading) -> bool
     ensures { result ≡ does-apply (reading_of reading) r }
 {
@@ -58,45 +51,36 @@ fn is_ceiling(program: &[u32], k: usize) -> bool
 fn ceilings_of(program: &[u32]) -> Bounds
     ensures { Bare program.now result.from result.to }
 {
-    let n = program.len() / 8;
     let mut from: usize = 0;
     let mut to: usize = 0;
-    let mut k: usize = 0;
-    while k < n {
-        if !is_ceiling(program, k) {
-            k += 1;
-            continue;
+    for k in 0..program.len() / 8 {
+        if is_ceiling(program, k) {
+            if to == 0 {
+                from = k;
+            }
+            to = k + 1;
         }
-        if to == 0 {
-            from = k;
-            k += 1;
-            to = k;
-            continue;
-        }
-        k += 1;
-        to = k;
     }
     Bounds { from, to }
 }
 
 // "a sensed p whose second argument is at least a (1 to 65,535) is taken as predicate b (1 to 255), once"
+#[tactic(auto, using(crate::proofs::Ceilings::taking))]
 pub fn taken_as(program: &[u32], at: Bounds, reading: Reading) -> u32
     requires { Bare program.now at.from at.to }
     ensures { result ≡ taken_as (rows_of program.now) (reading_of reading) }
 {
-    let to = at.to;
-    let mut k = at.from;
-    while k < to {
+    for k in at.from..at.to {
         let r = program::row_at(program, k);
         if applies(r, reading) {
             return model::constant(r.b);
         }
-        k += 1;
     }
     reading.p
 }
 
 // "A withdrawal deletes each live equal atom, lowest id first."
+#[tactic(auto, using(crate::proofs::Withdrawals::withdrawing))]
 pub fn withdraw(words: &mut [u32], scalars: Scalars, p: u32, a: u32, b: u32) -> Removal
     requires { Ready words.old scalars }
     ensures withdraws { Withdraws p a b (config_of words.old scalars) (config_of words.new result.scalars) result.gone }
@@ -105,12 +89,12 @@ pub fn withdraw(words: &mut [u32], scalars: Scalars, p: u32, a: u32, b: u32) -> 
     let mut s = scalars;
     let mut gone: u32 = 0;
     let mut k: usize = 0;
+    // kept: no plainer otherwise. The index stands where an atom went, and jumps past those that are not equal; their number falls.
     while k < s.atoms as usize {
         if state::is_equal(words, k, p, a, b) {
             let x = state::atom_at(words, k);
             let r = deletion::remove(words, s, x.id);
-            let left = r.scalars;
-            s = left;
+            s = r.scalars;
             gone += r.gone;
         } else {
             k = state::pass_unequal(words, p, a, b, k + 1, s.atoms as usize);
@@ -120,41 +104,27 @@ pub fn withdraw(words: &mut [u32], scalars: Scalars, p: u32, a: u32, b: u32) -> 
 }
 
 // One row of sense.
+#[tactic(auto, using(crate::proofs::Readings::sensing))]
 pub fn sense_row(
     program: &[u32],
     at: Bounds,
     words: &mut [u32],
     scalars: Scalars,
     reading: Reading,
-) -> Work
+) -> Result<Removal, Refusal>
     requires { Ready words.old scalars × Bare program.now at.from at.to }
-    ensures senses_row { SensesRow (rows_of program.now) (reading_of reading) (config_of words.old scalars) result.number (config_of words.new result.scalars) result.gone }
-    ensures ready { (result.number ≡ 0 → Ready words.new result.scalars) × (result.gone ≤ 320) }
+    ensures senses_row { SensesRow (rows_of program.now) (reading_of reading) (config_of words.old scalars) words.new result }
+    ensures ready { IfOk result (λ r. Ready words.new r.scalars × (r.gone ≤ 320)) }
 {
     let p = taken_as(program, at, reading);
     if reading.sign == 1 {
-        let bar = state::room_for_atom(scalars);
-        if bar != 0 {
-            return Work {
-                scalars,
-                gone: 0,
-                number: bar,
-            };
-        }
-        let made = state::append_atom(words, scalars, p, reading.a, reading.b);
-        return Work {
-            scalars: made,
+        state::room_for_atom(scalars)?;
+        return Ok(Removal {
+            scalars: state::append_atom(words, scalars, p, reading.a, reading.b),
             gone: 0,
-            number: 0,
-        };
+        });
     }
-    let r = withdraw(words, scalars, p, reading.a, reading.b);
-    let left = r.scalars;
-    Work {
-        scalars: left,
-        gone: r.gone,
-        number: 0,
-    }
+    Ok(withdraw(words, scalars, p, reading.a, reading.b))
 }
 
 // Row k of sense.
@@ -171,38 +141,30 @@ fn reading_at(rows: &[u32], k: usize) -> Reading
 }
 
 // "Rows in order": all rows, or the refusal that one of them meets.
-pub fn sense_rows(program: &[u32], words: &mut [u32], scalars: Scalars, rows: &[u32]) -> Work
+#[tactic(auto, using(crate::proofs::Readings::in_turn))]
+pub fn sense_rows(
+    program: &[u32],
+    words: &mut [u32],
+    scalars: Scalars,
+    rows: &[u32],
+) -> Result<Removal, Refusal>
     requires { Ready words.old scalars × (length rows.now ≤ 256) }
-    ensures senses_rows { SensesRows (rows_of program.now) (readings_from rows.now 0 (length rows.now / 4)) (config_of words.old scalars) result.number (config_of words.new result.scalars) result.gone }
-    ensures ready { result.number ≡ 0 → Ready words.new result.scalars }
+    ensures senses_rows { SensesRows (rows_of program.now) (readings_from rows.now 0 (length rows.now / 4)) (config_of words.old scalars) words.new result }
+    ensures ready { IfOk result (λ r. Ready words.new r.scalars) }
 {
     let at = ceilings_of(program);
-    let n = rows.len() / 4;
     let mut s = scalars;
     let mut gone: u32 = 0;
-    let mut k: usize = 0;
-    while k < n {
-        let w = sense_row(program, at, words, s, reading_at(rows, k));
-        let left = w.scalars;
-        if w.number != 0 {
-            return Work {
-                scalars: left,
-                gone: 0,
-                number: w.number,
-            };
-        }
-        s = left;
+    for k in 0..rows.len() / 4 {
+        let w = sense_row(program, at, words, s, reading_at(rows, k))?;
+        s = w.scalars;
         gone += w.gone;
-        k += 1;
     }
-    Work {
-        scalars: s,
-        gone,
-        number: 0,
-    }
+    Ok(Removal { scalars: s, gone })
 }
 
 // "sign (1 add, 2 withdraw), p, a, b" in their ranges.
+#[tactic(auto, unfolding(model::specs::Calls::in_range))]
 fn in_range(r: Reading) -> bool
     ensures { result ≡ is_in_range (reading_of r) }
 {
@@ -214,13 +176,5 @@ fn in_range(r: Reading) -> bool
 pub fn rows_in_range(rows: &[u32]) -> bool
     ensures { result ≡ every is_in_range (readings_from rows.now 0 (length rows.now / 4)) }
 {
-    let n = rows.len() / 4;
-    let mut k: usize = 0;
-    while k < n {
-        if !in_range(reading_at(rows, k)) {
-            return false;
-        }
-        k += 1;
-    }
-    true
+    (0..rows.len() / 4).all(|k| in_range(reading_at(rows, k)))
 }

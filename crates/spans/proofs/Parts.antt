@@ -7,22 +7,14 @@ use Prim.Native.Nat.{ℕ, ◌+◌, ◌/◌, ◌≤◌, ◌<◌}
 use native.Mathlib.Omega.{arith}
 use lib.Dec.{ltb, eqb}
 use lib.ListN.{length}
-use borrow.Author.Tests.{eqb-true, eqb-false, ltb-true, ltb-false, lt-ltb, le-ltb}
+use borrow.Author.Tests.{eqb-true, eqb-false, ltb-false, lt-ltb, le-ltb}
 use Rattle.lists.specs.Lists.{Pairs}
 use Rattle.lists.proofs.Lists.{test, clash}
 use Rattle.model.specs.declared.Row.{Row}
 use Rattle.program.specs.Rows.{row_at, rows_of}
 use Rattle.program_laws.specs.Lawful.{NotLater}
 use Rattle.spans.specs.Spans.{before, Bound}
-use Rattle.spans.proofs.Spans.{Halved, halved_up, halved_down, halved_bound}
-
--- one part further
-more : (a b c d e e' : Bool) → (e ≡ true → e' ≡ true) → (a || (b && (c || (d && e)))) ≡ true → (a || (b && (c || (d && e')))) ≡ true
-more true b c d e e' h p = refl
-more false true true d e e' h p = refl
-more false true false true e e' h p = h p
-more false true false false e e' h p = p
-more false false c d e e' h p = p
+use Rattle.spans.proofs.Spans.{Halved, halved_down, halved_bound}
 
 exact : (a b c d e e' f : Bool) → (e ≡ false → e' ≡ f) → (a || (b && (c || (d && e)))) ≡ false → (a || (b && (c || (d && e')))) ≡ (b && (d && f))
 exact true b c d e e' f h p = clash refl p
@@ -32,10 +24,6 @@ exact false true false false e e' f h p = refl
 exact false false c d e e' f h p = refl
 
 module _ (s n p : ℕ) (r : Row) where
-  before_more : before s n p r ≡ true → before s n (p + 1) r ≡ true
-  before_more = more (ltb r.set s) (eqb r.set s) (ltb r.rule n) (eqb r.rule n) _ _
-      (λ e. let h = ltb-true r.part p e in lt-ltb r.part (p + 1) (omega arith))
-
   -- a row that does not stand before the part stands before the next one exactly if it is of the part
   before_part : before s n p r ≡ false → before s n (p + 1) r ≡ (eqb r.set s && (eqb r.rule n && eqb r.part p))
   before_part = exact (ltb r.set s) (eqb r.set s) (ltb r.rule n) (eqb r.rule n) _ _ (eqb r.part p)
@@ -47,21 +35,10 @@ module _ (s n p : ℕ) (r : Row) where
 
 -- the rows of a part, one after the other
 module _ (program : List ℕ) (s n p : ℕ) (o : Pairs NotLater (rows_of program)) where
-  pub part_starts : (from : ℕ) → Bound program s n p from → Halved program s n (p + 1) from (length program / 8)
-  part_starts from x = record {
-    ordered = x.inside;
-    inside = omega arith;
-    earlier = λ i h. before_more s n p (row_at program i) (x.earlier i h);
-    later = λ i h k. absurd (omega arith);
-  }
-
   module _ (from : ℕ) (x : Bound program s n p from) (k : ℕ) (f : from ≤ k) (l : k < length program / 8) (h : Halved program s n (p + 1) k (length program / 8))
       (b : Bool) (e : b ≡ (eqb (row_at program k).set s && (eqb (row_at program k).rule n && eqb (row_at program k).part p))) where
     here : before s n (p + 1) (row_at program k) ≡ b
     here = before_part s n p (row_at program k) (x.later k f l) ∙ sym e
-
-    pub part_goes_on : b ≡ true → Halved program s n (p + 1) (k + 1) (length program / 8)
-    part_goes_on t = halved_up program s n (p + 1) k (length program / 8) k o (omega arith) l (here ∙ t) h
 
     pub part_stops : b ≡ false → Bound program s n (p + 1) k
     part_stops t = halved_bound program s n (p + 1) k k (omega arith) (halved_down program s n (p + 1) k (length program / 8) k o (omega arith) l (here ∙ t) h)

@@ -1,13 +1,13 @@
 -- In a program whose rows stand in order the rows of a part are those between two bounds.
 use mathlib.Core.Path.{◌≡◌, refl, sym, ap, ◌∙◌}
-use mathlib.Core.Bool.{Bool, true, false, ◌&&◌, or-false, and-eq-true_iff}
-use mathlib.Core.Logic.{◌≢◌, ⊎_elim}
+use mathlib.Core.Bool.{Bool, true, false, ◌&&◌, and-eq-true_iff}
+use mathlib.Core.Logic.{⊎_elim}
 use mathlib.Core.List.{List, [], ◌∷◌, ◌++◌, map}
 use Prim.Native.Nat.{ℕ, zero, suc, ◌+◌, ◌-◌, ◌/◌, ◌<◌, ◌≤◌}
 use native.Mathlib.Omega.{arith}
 use lib.Dec.{leb, ltb, eqb}
 use lib.ListN.{length}
-use borrow.Author.Tests.{leb-true, leb-false, ltb-true, ltb-false, lt-ltb, le-ltb, eqb-true, eqb-false, eq-eqb, ne_eqb}
+use borrow.Author.Tests.{leb-true, leb-false, ltb-true, ltb-false, lt-ltb, le-ltb, eqb-true, eqb-false, eq-eqb}
 use Rattle.lists.specs.Lists.{Pairs, keep, count_up}
 use Rattle.lists.proofs.Search.{in_count_up}
 use Rattle.lists.proofs.Lists.{test, clash, map_append, or_cases}
@@ -19,34 +19,18 @@ use Rattle.program.specs.Rows.{row_at, rows_of, rows_from}
 use Rattle.program_laws.specs.Lawful.{NotLater}
 use Rattle.spans.specs.Spans.{before, Bound}
 
--- the first column that differs decides whether a row stands before
-module _ (s n p : ℕ) (r : Row) where
-  pub sets_decide : r.set ≢ s → ltb r.set s ≡ before s n p r
-  sets_decide d = let e = ne_eqb r.set s d in let o = or-false (ltb r.set s) in rw (e, o)
-
-  pub rules_decide : r.set ≡ s → r.rule ≢ n → ltb r.rule n ≡ before s n p r
-  rules_decide h d =
-      let l = le-ltb r.set s (omega arith) in
-      let q = eq-eqb r.set s h in
-      let e = ne_eqb r.rule n d in
-      let o = or-false (ltb r.rule n) in
-      rw (l, q, e, o)
-
-  pub parts_decide : r.set ≡ s → r.rule ≡ n → ltb r.part p ≡ before s n p r
-  parts_decide h g = rw (le-ltb r.set s (omega arith), eq-eqb r.set s h, le-ltb r.rule n (omega arith), eq-eqb r.rule n g)
-
 -- the order, as a test and as a fact
-data Before (s n p : ℕ) (r : Row) : Type 0 where
+pub data Before (s n p : ℕ) (r : Row) : Type 0 where
   by_set : r.set < s → Before s n p r
   by_rule : r.set ≡ s → r.rule < n → Before s n p r
   by_part : r.set ≡ s → r.rule ≡ n → r.part < p → Before s n p r
 
-before_of : (s n p : ℕ) (r : Row) → before s n p r ≡ true → Before s n p r
+pub before_of : (s n p : ℕ) (r : Row) → before s n p r ≡ true → Before s n p r
 before_of s n p r e = ⊎_elim (λ h. by_set (ltb-true r.set s h))
     (λ h. let a = (and-eq-true_iff _ _).0 h in ⊎_elim (λ k. by_rule (eqb-true r.set s a.0) (ltb-true r.rule n k))
     (λ k. let b = (and-eq-true_iff _ _).0 k in by_part (eqb-true r.set s a.0) (eqb-true r.rule n b.0) (ltb-true r.part p b.1)) (or_cases _ _ a.1)) (or_cases _ _ e)
 
-of_before : (s n p : ℕ) (r : Row) → Before s n p r → before s n p r ≡ true
+pub of_before : (s n p : ℕ) (r : Row) → Before s n p r → before s n p r ≡ true
 of_before s n p r (by_set h) = rw (lt-ltb r.set s h)
 of_before s n p r (by_rule e h) = let f : ltb r.set s ≡ false = le-ltb r.set s (omega arith) in rw (f, eq-eqb r.set s e, lt-ltb r.rule n h)
 of_before s n p r (by_part e d h) =
@@ -55,7 +39,7 @@ of_before s n p r (by_part e d h) =
     rw (f, eq-eqb r.set s e, g, eq-eqb r.rule n d, lt-ltb r.part p h)
 
 -- a row before which stands one that is not before, is not before; one that stands before one that is, is
-carried : (s n p : ℕ) (r q : Row) → NotLater r q → Before s n p q → Before s n p r
+pub carried : (s n p : ℕ) (r q : Row) → NotLater r q → Before s n p q → Before s n p r
 carried s n p r q o (by_set h) = by_set (let a = o.sets in omega arith)
 carried s n p r q o (by_rule e h) = at (ltb r.set s) refl
   where
@@ -78,7 +62,7 @@ carried s n p r q o (by_part e d h) = at (ltb r.set s) refl (ltb r.rule n) refl
         by_part (z ∙ e) (x ∙ d) (omega arith)
 
 -- rows by their places
-rows_ordered : (words : List ℕ) → Pairs NotLater (rows_of words) → (i j : ℕ) → i < j → j < length words / 8 → NotLater (row_at words i) (row_at words j)
+pub rows_ordered : (words : List ℕ) → Pairs NotLater (rows_of words) → (i j : ℕ) → i < j → j < length words / 8 → NotLater (row_at words i) (row_at words j)
 unfolding rows_of
 rows_ordered words o i j h k = at 0 (length words / 8) (map_pairs NotLater (row_at words) (count_up 0 (length words / 8)) o) (omega arith) (omega arith)
   where
@@ -170,7 +154,7 @@ module _ (words : List ℕ) (s n p a b : ℕ) (x : Bound words s n p a) (y : Bou
       middle : keep is_part (rows_from words a (b - a)) ≡ rows_from words a (b - a)
       middle = all_kept words is_part a (b - a) (λ i u v. between (row_at words i) (x.later i u (let m = y.inside in let h = bounds_rise in omega arith)) (y.earlier i (let h = bounds_rise in omega arith)))
 
--- THE SEARCH BY HALVES: rows below low stand before, rows from high on do not
+-- rows below low stand before, rows from high on do not
 pub record Halved (words : List ℕ) (s n p low high : ℕ) : Type 0 where
   pub ordered : low ≤ high
   pub inside : high ≤ length words / 8
@@ -180,15 +164,6 @@ pub record Halved (words : List ℕ) (s n p low high : ℕ) : Type 0 where
 module _ (words : List ℕ) (s n p : ℕ) where
   pub halved_all : Halved words s n p 0 (length words / 8)
   halved_all = record { ordered = omega arith; inside = omega arith; earlier = λ i h. absurd (omega arith); later = λ i h k. absurd (omega arith) }
-
-  pub halved_up : (low high m : ℕ) → Pairs NotLater (rows_of words) → low ≤ m → m < high → before s n p (row_at words m) ≡ true → Halved words s n p low high → Halved words s n p (m + 1) high
-  halved_up low high m o a b e h = record {
-    ordered = omega arith;
-    inside = h.inside;
-    earlier = λ i k. ⊎_elim (λ q. let d = eqb-true i m q in rw d e)
-        (λ q. let d = eqb-false i m q in of_before s n p (row_at words i) (carried s n p (row_at words i) (row_at words m) (rows_ordered words o i m (omega arith) (let z = h.inside in omega arith)) (before_of s n p (row_at words m) e))) (test (eqb i m));
-    later = h.later;
-  }
 
   pub halved_down : (low high m : ℕ) → Pairs NotLater (rows_of words) → low ≤ m → m < high → before s n p (row_at words m) ≡ false → Halved words s n p low high → Halved words s n p low m
   halved_down low high m o a b e h = record {

@@ -4,7 +4,7 @@
 ghost use Rattle.std.specs.Prelude.{◌≡◌, ◌&&◌, ◌+◌, ◌*◌, ◌/◌, ◌-◌, ◌<◌, ◌≤◌, eqb, length};
 ghost use Rattle.lists.specs.Lists.{Pairs};
 ghost use Rattle.model.specs.Program.{part_of};
-ghost use Rattle.program.specs.Rows.{row_at, rows_of, rows_from};
+ghost use Rattle.program.specs.Rows.{row_at, row_of, rows_of, rows_from};
 ghost use Rattle.program_laws.specs.Lawful.{NotLater};
 ghost use Rattle.spans.specs.Spans.{before, Bound};
 
@@ -15,19 +15,11 @@ pub struct Span {
     pub to: usize,
 }
 
-// Row k stands before every row of this part.
-fn is_before(program: &[u32], k: usize, set: u32, rule: u32, part: u32) -> bool
-    requires { k * 8 + 8 ≤ length program.now }
-    ensures { result ≡ before set rule part (row_at program.now k) }
+// The row stands before every row of this part.
+fn is_before(row: &[u32; 8], set: u32, rule: u32, part: u32) -> bool
+    ensures { result ≡ before set rule part (row_of row.now) }
 {
-    let r = program::row_at(program, k);
-    if r.set != set {
-        return r.set < set;
-    }
-    if r.rule != rule {
-        return r.rule < rule;
-    }
-    r.part < part
+    (row[0], row[1], row[2]) < (set, rule, part)
 }
 
 // The first row that does not stand before the part, or how many rows there are.
@@ -35,17 +27,8 @@ pub fn first_from(program: &[u32], set: u32, rule: u32, part: u32) -> usize
     requires { Pairs NotLater (rows_of program.now) }
     ensures { Bound program.now set rule part result }
 {
-    let mut low: usize = 0;
-    let mut high = program.len() / 8;
-    while low < high {
-        let middle = low + (high - low) / 2;
-        if is_before(program, middle, set, rule, part) {
-            low = middle + 1;
-        } else {
-            high = middle;
-        }
-    }
-    low
+    let (rows, _) = program.as_chunks::<8>();
+    rows.partition_point(|row| is_before(row, set, rule, part))
 }
 
 // The rows of a part of a rule: its first by halves, its end from there, since a part has few rows.
@@ -66,7 +49,7 @@ fn is_part(program: &[u32], k: usize, set: u32, rule: u32, part: u32) -> bool
         && (eqb (row_at program.now k).rule rule && eqb (row_at program.now k).part part)) }
 {
     let r = program::row_at(program, k);
-    (r.set == set) & ((r.rule == rule) & (r.part == part))
+    (r.set, r.rule, r.part) == (set, rule, part)
 }
 
 // Where a part's rows end that begin at `from`.
@@ -75,12 +58,10 @@ pub fn part_end(program: &[u32], from: usize, set: u32, rule: u32, part: u32) ->
     ensures { Bound program.now set rule (part + 1) result }
 {
     let n = program.len() / 8;
-    let mut k = from;
-    while k < n {
+    for k in from..n {
         if !is_part(program, k, set, rule, part) {
             return k;
         }
-        k += 1;
     }
-    k
+    n
 }

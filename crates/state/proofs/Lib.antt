@@ -5,3 +5,4 @@ pub mod Changed
 pub mod Live
 pub mod Room
 pub mod Near
+pub mod Arrays

@@ -25,12 +25,12 @@ pub config_path : (s : Scalars) (n : ℕ) {xs ys : List Atom} {ps qs : List Plan
     (record { atoms = ys; plans = qs; phase = s.phase; cycle = s.cycle; next = m; waiting = s.waiting })
 config_path s n p q e = λ i. record { atoms = p i; plans = q i; phase = s.phase; cycle = s.cycle; next = e i; waiting = s.waiting }
 
--- the plans stand where the words behind plans-at do
+-- the plans stand where the words behind plans_at do
 pub plans_stand : (W X : List ℕ) (m : ℕ) → drop plans_at X ≡ drop plans_at W → plans_of m X ≡ plans_of m W
 unfolding plan_at
 plans_stand W X m e = ap (λ (l : List ℕ). tabulate m (λ (k : ℕ). plan_of (row 18 l k))) e
 
--- the atoms stand where a call was lent the words behind plans-at alone
+-- the atoms stand where a call was lent the words behind plans_at alone
 pub atoms_stand : (W ys : List ℕ) (n : ℕ) → n ≤ 256 → length W ≡ 2432 → length ys ≡ length W - plans_at → atoms_of n (with_part plans_at (length W - plans_at) W ys) ≡ atoms_of n W
 atoms_stand W ys n h long e = tabulate_same n (atom_at (with_part plans_at (length W - plans_at) W ys)) (atom_at W)
     (λ k hk. atom_same W (with_part plans_at (length W - plans_at) W ys) k (omega arith) front)
@@ -111,7 +111,7 @@ plan_of_words q hj hv =
 abbrev pub plan_made : Scalars → ℕ → ℕ → ℕ → List ℕ → List ℕ → Declared.Plan
 plan_made s t n left js vs = record { id = s.next; set = t; rule = n; left = left; flags = 0; subgoal = 0; justifications = js; values = vs }
 
--- a call was lent the words behind plans-at and left ys there
+-- a call was lent the words behind plans_at and left ys there
 pub plan_appended : (W : List ℕ) (s : Scalars) (t n left : ℕ) (js vs ys : List ℕ) → length W ≡ 2432 → s.atoms ≤ 256 → s.plans < 64 → length js ≡ 4 → length vs ≡ 8 →
     ys ≡ placed 18 (part plans_at (length W - plans_at) W) s.plans (plan_words (plan_made s t n left js vs)) →
     config_of (with_part plans_at (length W - plans_at) W ys) (plan_counted s) ≡ add_plan t n vs left (trimmed js) (config_of W s)

@@ -5,11 +5,12 @@ use mathlib.Core.List.{List}
 use mathlib.Core.Logic.{⊎_elim, ◌≢◌}
 use Prim.Native.Nat.{ℕ, ◌+◌, ◌<◌, ◌≤◌}
 use native.Mathlib.Omega.{arith}
-use lib.Dec.{leb, ltb}
+use lib.Dec.{ltb}
 use lib.ListN.{length, get_or}
-use borrow.Author.Tests.{ltb-true, ltb-false, le-leb, lt-leb}
+use borrow.Author.Tests.{ltb-true, ltb-false, lt-ltb, le-ltb}
+use Rattle.std.specs.Prelude.{Option, None, Some, is_some}
 use Rattle.lists.specs.Lists.{member}
-use Rattle.lists.specs.Tables.{tabulate, index_of}
+use Rattle.lists.specs.Tables.{tabulate, index_of, PlaceOf}
 use Rattle.lists.proofs.Tables.{pairs_get}
 use Rattle.lists.proofs.Tables.{equal_or_not, less_or_more, tabulate_at, tabulate_length, tabulate_map, index_tabulated_is, index_member}
 use Rattle.model.specs.declared.Atom.{Atom}
@@ -24,12 +25,10 @@ module _ (W : List ℕ) (n : ℕ) where
   ids_long : length (atom_ids_of n W) ≡ n
   ids_long = ap length (sym ids) ∙ tabulate_length n (λ (k : ℕ). get_or W k 0)
 
-  pub absent_is : (id r : ℕ) → r ≡ index_of id (atom_ids_of n W) → leb n r ≡ not (member id (atom_ids_of n W))
-  absent_is id r e = turned (ltb r n) refl ∙ ap not (ap (λ (m : ℕ). ltb m n) e ∙ ap (ltb (index_of id (atom_ids_of n W))) (sym ids_long) ∙ index_member id (atom_ids_of n W))
-    where
-      turned : (t : Bool) → ltb r n ≡ t → leb n r ≡ not (ltb r n)
-      turned true h = let q = ltb-true r n h in lt-leb n r q ∙ sym (ap not h)
-      turned false h = let q = ltb-false r n h in le-leb n r q ∙ sym (ap not h)
+  -- it is a member exactly if it was found
+  pub found_is : (id : ℕ) (r : Option ℕ) → PlaceOf n id (atom_ids_of n W) r → is_some r ≡ member id (atom_ids_of n W)
+  found_is id None e = let z = ids_long in sym (le-ltb _ _ (omega arith)) ∙ index_member id (atom_ids_of n W)
+  found_is id (Some k) e = let z = ids_long in sym (lt-ltb _ _ (omega arith)) ∙ index_member id (atom_ids_of n W)
 
   module _ (rise : AtomsRise n W) where
     lower : (i j : ℕ) → i < j → j < n → get_or W i 0 < get_or W j 0
@@ -42,19 +41,21 @@ module _ (W : List ℕ) (n : ℕ) where
     not_higher : (i j : ℕ) → i ≤ j → j < n → get_or W i 0 ≤ get_or W j 0
     not_higher i j h k = ⊎_elim (λ (e : i ≡ j). let q = ap (λ (m : ℕ). get_or W m 0) e in omega arith) (λ (ne : i ≢ j). ⊎_elim (λ (l : i < j). let q = lower i j l k in omega arith) (λ (l : j < i). absurd (omega arith)) (less_or_more i j ne)) (equal_or_not i j)
 
-    pub near_is : (k id : ℕ) → k < n → get_or W k 0 ≡ id → k ≡ index_of id (atom_ids_of n W)
-    near_is k id h e =
-        index_tabulated_is n (λ (k : ℕ). get_or W k 0) id k (omega arith) (λ j p f. let q = lower j k p h in omega arith) (λ p. e)
-        ∙ ap (index_of id) ids
+    pub near_is : (k id : ℕ) → k < n → get_or W k 0 ≡ id → PlaceOf n id (atom_ids_of n W) (Some k)
+    near_is k id h e = (
+      index_tabulated_is n (λ (k : ℕ). get_or W k 0) id k (omega arith) (λ j p f. let q = lower j k p h in omega arith) (λ p. e)
+          ∙ ap (index_of id) ids,
+      h,
+    )
 
-    gap_at : (g id : ℕ) → g + 1 < n → get_or W g 0 < id → id < get_or W (g + 1) 0 → n ≡ index_of id (atom_ids_of n W)
-    gap_at g id h l m =
-        index_tabulated_is n (λ (k : ℕ). get_or W k 0) id n (omega arith) (λ j p e. nowhere j p e (ltb j (g + 1)) refl) (λ p. absurd (omega arith))
-        ∙ ap (index_of id) ids
+    gap_at : (g id : ℕ) → g + 1 < n → get_or W g 0 < id → id < get_or W (g + 1) 0 → PlaceOf n id (atom_ids_of n W) None
+    gap_at g id h l m = sym
+        (index_tabulated_is n (λ (k : ℕ). get_or W k 0) id n (omega arith) (λ j p e. nowhere j p e (ltb j (g + 1)) refl) (λ p. absurd (omega arith))
+        ∙ ap (index_of id) ids)
       where
         nowhere : (j : ℕ) → j < n → get_or W j 0 ≡ id → (t : Bool) → ltb j (g + 1) ≡ t → ⊥
         nowhere j p e true q = let r = ltb-true j (g + 1) q in let z = not_higher j g (omega arith) (omega arith) in omega arith
         nowhere j p e false q = let r = ltb-false j (g + 1) q in let z = not_higher (g + 1) j (omega arith) p in omega arith
 
     pub gap_free : (g id : ℕ) → g + 1 < n → get_or W g 0 < id → id < get_or W (g + 1) 0 → true ≡ not (member id (atom_ids_of n W))
-    gap_free g id h l m = sym (le-leb n n (omega arith)) ∙ absent_is id n (gap_at g id h l m)
+    gap_free g id h l m = ap not (found_is id None (gap_at g id h l m))

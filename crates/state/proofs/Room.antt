@@ -9,6 +9,9 @@ use native.Mathlib.Omega.{arith}
 use lib.Dec.{eqb, leb}
 use lib.ListN.{length}
 use borrow.Author.Tests.{eqb-false, leb-false}
+use Rattle.model.specs.declared.refusal.Refusal.{Refusal}
+use Rattle.model.specs.declared.refusal.Refusal.TheVariants.{NotWellFormed, Layout, Row, Valueless, TooMany, OutOfTurn, OutOfRange, IdsSpent, AtomsFull, PlansFull, CyclesSpent, NotAlive}
+use Rattle.model.specs.Refusals.{number_of}
 use Rattle.model.specs.Configuration.{most_atoms, most_plans, last_next}
 use Rattle.state.specs.declared.Scalars.{Scalars}
 use Rattle.state.specs.View.{config_of, atom_bar, plan_bar}
@@ -34,3 +37,18 @@ bar_free n m = free most_atoms n m 9 (omega arith)
 
 pub plan_bar_free : (n m : ℕ) → plan_bar n m ≡ 0 → (n ≢ last_next) × (m < most_plans)
 plan_bar_free n m = free most_plans n m 10 (omega arith)
+
+-- no refusal has number 0
+pub numbered : (e : Refusal) → number_of e ≢ 0
+numbered NotWellFormed h = absurd (omega arith)
+numbered Layout h = absurd (omega arith)
+numbered Row h = absurd (omega arith)
+numbered Valueless h = absurd (omega arith)
+numbered TooMany h = absurd (omega arith)
+numbered OutOfTurn h = absurd (omega arith)
+numbered OutOfRange h = absurd (omega arith)
+numbered IdsSpent h = absurd (omega arith)
+numbered AtomsFull h = absurd (omega arith)
+numbered PlansFull h = absurd (omega arith)
+numbered CyclesSpent h = absurd (omega arith)
+numbered NotAlive h = absurd (omega arith)

@@ -1,5 +1,5 @@
 -- Laws of what the words say: atoms and plans by their places, their columns, their ids.
-use mathlib.Core.Path.{◌≡◌, refl, sym, ap, ◌∙◌}
+use mathlib.Core.Path.{◌≡◌, sym, ap, ◌∙◌}
 use mathlib.Core.List.{List, [], ◌∷◌}
 use Prim.Native.Nat.{ℕ, ◌+◌, ◌-◌, ◌*◌, ◌<◌}
 use native.Mathlib.Omega.{arith}
@@ -18,30 +18,6 @@ use Rattle.state.specs.View.{atom_p, atom_a, atom_b, atom_cycle, plans_at, atom_
 
 -- the columns of a plan
 module _ (l : List ℕ) (k : ℕ) where
-  pub plan_id_is : plan_word l k 0 ≡ (plan_at l k).id
-  unfolding plan_at
-  plan_id_is = refl
-
-  pub plan_set_is : plan_word l k 1 ≡ (plan_at l k).set
-  unfolding plan_at
-  plan_set_is = refl
-
-  pub plan_rule_is : plan_word l k 2 ≡ (plan_at l k).rule
-  unfolding plan_at
-  plan_rule_is = refl
-
-  pub plan_left_is : plan_word l k 3 ≡ (plan_at l k).left
-  unfolding plan_at
-  plan_left_is = refl
-
-  pub plan_flags_is : plan_word l k 4 ≡ (plan_at l k).flags
-  unfolding plan_at
-  plan_flags_is = refl
-
-  pub plan_subgoal_is : plan_word l k 5 ≡ (plan_at l k).subgoal
-  unfolding plan_at
-  plan_subgoal_is = refl
-
   pub plan_justification_is : (j : ℕ) → j < 4 → plan_word l k (6 + j) ≡ get_or (plan_at l k).justifications j 0
   unfolding plan_at
   plan_justification_is j h =
@@ -86,7 +62,7 @@ atom_keys n l =
     (λ k h. let e : k * 1 + 0 ≡ k = omega arith in get_or-take 1 (drop (k * 1) l) 0 0 (omega arith) ∙ get_or-drop (k * 1) l 0 0 ∙ ap (λ (m : ℕ). get_or l m 0) e)
     ∙ tabulate_map (λ (x : Atom). x.id) n (atom_at l)
 
--- an atom stands where the words before plans-at do
+-- an atom stands where the words before plans_at do
 pub atom_same : (W X : List ℕ) (k : ℕ) → k < 256 → ((j : ℕ) → j < plans_at → get_or X j 0 ≡ get_or W j 0) → atom_at X k ≡ atom_at W k
 unfolding atom_at
 atom_same W X k h e =

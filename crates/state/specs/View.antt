@@ -113,24 +113,24 @@ pub record LivePlan (words : List ℕ) (s : Scalars) (k : ℕ) : Type 0 where
 
 -- the scalars after an atom, after a plan was made
 abbrev pub atom_counted : Scalars → Scalars
-atom_counted s = record { phase = s.phase; cycle = s.cycle; next = s.next + 1; waiting = s.waiting; atoms = s.atoms + 1; plans = s.plans }
+atom_counted s = record s { next = s.next + 1; atoms = s.atoms + 1 }
 
 abbrev pub plan_counted : Scalars → Scalars
-plan_counted s = record { phase = s.phase; cycle = s.cycle; next = s.next + 1; waiting = s.waiting; atoms = s.atoms; plans = s.plans + 1 }
+plan_counted s = record s { next = s.next + 1; plans = s.plans + 1 }
 
 -- the scalars with another phase, with another plan waiting
 abbrev pub phase_put : ℕ → Scalars → Scalars
-phase_put n s = record { phase = n; cycle = s.cycle; next = s.next; waiting = s.waiting; atoms = s.atoms; plans = s.plans }
+phase_put n s = record s { phase = n }
 
 abbrev pub cycle_put : Scalars → Scalars
-cycle_put s = record { phase = 0; cycle = s.cycle + 1; next = s.next; waiting = s.waiting; atoms = s.atoms; plans = s.plans }
+cycle_put s = record s { phase = 0; cycle = s.cycle + 1 }
 
 abbrev pub waiting_put : ℕ → Scalars → Scalars
-waiting_put n s = record { phase = s.phase; cycle = s.cycle; next = s.next; waiting = n; atoms = s.atoms; plans = s.plans }
+waiting_put n s = record s { waiting = n }
 
 -- the scalars with other counts
 abbrev pub counts_put : ℕ → ℕ → Scalars → Scalars
-counts_put n m s = record { phase = s.phase; cycle = s.cycle; next = s.next; waiting = s.waiting; atoms = n; plans = m }
+counts_put n m s = record s { atoms = n; plans = m }
 
 -- a word of a plan, and the words with another in its place
 abbrev pub plan_word : List ℕ → ℕ → ℕ → ℕ
@@ -147,9 +147,13 @@ plan_words q =
     q.id ∷ q.set ∷ q.rule ∷ q.left ∷ q.flags ∷ q.subgoal ∷ get_or js 0 0 ∷ get_or js 1 0 ∷ get_or js 2 0 ∷ get_or js 3 0 ∷
     get_or vs 0 0 ∷ get_or vs 1 0 ∷ get_or vs 2 0 ∷ get_or vs 3 0 ∷ get_or vs 4 0 ∷ get_or vs 5 0 ∷ get_or vs 6 0 ∷ get_or vs 7 0 ∷ []
 
--- "8 before 9 or 10": the refusal that one more atom, one more plan meets, or 0
+-- "8 before 9 or 10": the refusal that one more meets where n live, by that of the most that may; or 0
+abbrev pub bar : ℕ → ℕ → ℕ → ℕ → ℕ
+bar most full next n = if eqb next last_next then 8 else if leb most n then full else 0
+
+-- of one more atom, of one more plan
 abbrev pub atom_bar : ℕ → ℕ → ℕ
-atom_bar next atoms = if eqb next last_next then 8 else if leb most_atoms atoms then 9 else 0
+atom_bar = bar most_atoms 9
 
 abbrev pub plan_bar : ℕ → ℕ → ℕ
-plan_bar next plans = if eqb next last_next then 8 else if leb most_plans plans then 10 else 0
+plan_bar = bar most_plans 10

@@ -3,11 +3,12 @@
 
 ghost use Rattle.std.specs.Prelude.{◌≡◌, false, not, ℕ, ◌+◌, ◌-◌, ◌*◌, ◌<◌, ◌≤◌, length, get_or};
 ghost use Rattle.lists.specs.Lists.{member};
-ghost use Rattle.lists.specs.Tables.{index_of, trimmed};
+ghost use Rattle.lists.specs.Tables.{PlaceOf, trimmed};
+ghost use Rattle.model.specs.Refusals.{RefusedBy, number_of};
 ghost use Rattle.model.specs.Configuration.{empty, no_value, with_flag, without_flag, has_flag, equal_to, with_flags, step_removed, change_plan, add_atom, add_plan, add_subgoal};
-ghost use Rattle.state.specs.View.{atom_at, plan_at, config_of, atom_ids_of, plan_ids_of, AtomsRise, PlansRise, LivePlan, atom_counted, plan_counted, phase_put, cycle_put, waiting_put, counts_put, plan_by_value, plan_word, with_plan_word, plan_words, atom_bar, plan_bar};
+ghost use Rattle.state.specs.View.{atom_at, plan_at, config_of, atom_ids_of, plan_ids_of, AtomsRise, PlansRise, LivePlan, atom_counted, plan_counted, phase_put, cycle_put, waiting_put, counts_put, plan_by_value, plan_word, with_plan_word, plan_words, bar, atom_bar, plan_bar};
 
-use model::Atom;
+use model::{Atom, Refusal};
 
 // The value of a variable that has none.
 pub const NO_VALUE: u32 = 65536;
@@ -65,23 +66,22 @@ impl Config {
     pub fn fresh() -> Config
         ensures { config_of result.words result.scalars ≡ empty }
     {
-        let words = [0u32; 2432];
-        let scalars = Scalars {
-            phase: 0,
-            cycle: 0,
-            next: 1,
-            waiting: 0,
-            atoms: 0,
-            plans: 0,
-        };
         Config {
-            words: words,
-            scalars: scalars,
+            words: [0; 2432],
+            scalars: Scalars {
+                phase: 0,
+                cycle: 0,
+                next: 1,
+                waiting: 0,
+                atoms: 0,
+                plans: 0,
+            },
         }
     }
 }
 
 // "The sixteen flags of a plan instance are one 16-bit number, flag f having weight 2^(f-1)": set, cleared, tested.
+#[tactic(auto, using(crate::proofs::Flags::sets_flag))]
 pub fn with_flag(flags: u16, f: u32) -> u16
     requires { (1 ≤ f) × (f ≤ 16) }
     ensures { result ≡ with_flag f flags }
@@ -89,6 +89,7 @@ pub fn with_flag(flags: u16, f: u32) -> u16
     flags | (1 << (f - 1))
 }
 
+#[tactic(auto, using(crate::proofs::Flags::clears_flag))]
 pub fn without_flag(flags: u16, f: u32) -> u16
     requires { (1 ≤ f) × (f ≤ 16) }
     ensures { result ≡ without_flag f flags }
@@ -96,6 +97,7 @@ pub fn without_flag(flags: u16, f: u32) -> u16
     flags & !(1 << (f - 1))
 }
 
+#[tactic(auto, using(crate::proofs::Flags::tests_flag))]
 pub fn has_flag(flags: u16, f: u32) -> bool
     requires { (1 ≤ f) × (f ≤ 16) }
     ensures { result ≡ has_flag f flags }
@@ -109,12 +111,9 @@ impl Scalars {
         ensures { result ≡ atom_counted self }
     {
         Scalars {
-            phase: self.phase,
-            cycle: self.cycle,
             next: self.next + 1,
-            waiting: self.waiting,
             atoms: self.atoms + 1,
-            plans: self.plans,
+            ..self
         }
     }
 
@@ -123,26 +122,16 @@ impl Scalars {
         ensures { result ≡ plan_counted self }
     {
         Scalars {
-            phase: self.phase,
-            cycle: self.cycle,
             next: self.next + 1,
-            waiting: self.waiting,
-            atoms: self.atoms,
             plans: self.plans + 1,
+            ..self
         }
     }
 
     pub fn with_phase(self, phase: u32) -> Scalars
         ensures { result ≡ phase_put phase self }
     {
-        Scalars {
-            phase: phase,
-            cycle: self.cycle,
-            next: self.next,
-            waiting: self.waiting,
-            atoms: self.atoms,
-            plans: self.plans,
-        }
+        Scalars { phase, ..self }
     }
 
     // "cycle rises by 1, phase is 0"
@@ -153,10 +142,7 @@ impl Scalars {
         Scalars {
             phase: 0,
             cycle: self.cycle + 1,
-            next: self.next,
-            waiting: self.waiting,
-            atoms: self.atoms,
-            plans: self.plans,
+            ..self
         }
     }
 
@@ -164,12 +150,9 @@ impl Scalars {
         ensures { result ≡ counts_put atoms plans self }
     {
         Scalars {
-            phase: self.phase,
-            cycle: self.cycle,
-            next: self.next,
-            waiting: self.waiting,
-            atoms: atoms,
-            plans: plans,
+            atoms,
+            plans,
+            ..self
         }
     }
 
@@ -177,17 +160,14 @@ impl Scalars {
         ensures { result ≡ waiting_put id self }
     {
         Scalars {
-            phase: self.phase,
-            cycle: self.cycle,
-            next: self.next,
             waiting: id,
-            atoms: self.atoms,
-            plans: self.plans,
+            ..self
         }
     }
 }
 
 // Atom k.
+#[tactic(auto, unfolding(crate::specs::View::atom_at))]
 pub fn atom_at(words: &[u32], k: usize) -> Atom
     requires { (length words.now ≡ 2432) × (k < 256) }
     ensures { result ≡ atom_at words.now k }
@@ -215,11 +195,11 @@ fn any_equal(words: &[u32], k: usize, p: u32, a: u32, b: u32) -> bool
     requires { (length words.now ≡ 2432) × (k + 8 ≤ 256) }
     ensures { result ≡ false → ((i : ℕ) → k ≤ i → i < k + 8 → equal_to p a b (atom_at words.now i) ≡ false) }
 {
-    let first = is_equal(words, k, p, a, b) | is_equal(words, k + 1, p, a, b);
-    let second = is_equal(words, k + 2, p, a, b) | is_equal(words, k + 3, p, a, b);
-    let third = is_equal(words, k + 4, p, a, b) | is_equal(words, k + 5, p, a, b);
-    let fourth = is_equal(words, k + 6, p, a, b) | is_equal(words, k + 7, p, a, b);
-    (first | second) | (third | fourth)
+    let mut any = false;
+    for i in k..k + 8 {
+        any |= is_equal(words, i, p, a, b);
+    }
+    any
 }
 
 // From `from` on, past eights of n atoms that have no p(a, b).
@@ -227,14 +207,12 @@ pub fn pass_unequal(words: &[u32], p: u32, a: u32, b: u32, from: usize, n: usize
     requires { (length words.now ≡ 2432) × (from ≤ n) × (n ≤ 256) }
     ensures { (from ≤ result) × (result ≤ n) × ((i : ℕ) → from ≤ i → i < result → equal_to p a b (atom_at words.now i) ≡ false) }
 {
-    let mut k = from;
-    while k + 8 <= n {
-        if any_equal(words, k, p, a, b) {
+    for k in (from..n).step_by(8) {
+        if n < k + 8 || any_equal(words, k, p, a, b) {
             return k;
         }
-        k += 8;
     }
-    k
+    n
 }
 
 // A word of plan k.
@@ -246,6 +224,7 @@ fn plan_word(words: &[u32], k: usize, column: usize) -> u32
 }
 
 // What stands in plan k, column by column.
+#[tactic(auto, unfolding(crate::specs::View::plan_at))]
 pub fn plan_id(words: &[u32], k: usize) -> u32
     requires { (length words.now ≡ 2432) × (k < 64) }
     ensures { result ≡ (plan_at words.now k).id }
@@ -253,6 +232,7 @@ pub fn plan_id(words: &[u32], k: usize) -> u32
     plan_word(words, k, 0)
 }
 
+#[tactic(auto, unfolding(crate::specs::View::plan_at))]
 pub fn plan_set(words: &[u32], k: usize) -> u32
     requires { (length words.now ≡ 2432) × (k < 64) }
     ensures { result ≡ (plan_at words.now k).set }
@@ -260,6 +240,7 @@ pub fn plan_set(words: &[u32], k: usize) -> u32
     plan_word(words, k, 1)
 }
 
+#[tactic(auto, unfolding(crate::specs::View::plan_at))]
 pub fn plan_rule(words: &[u32], k: usize) -> u32
     requires { (length words.now ≡ 2432) × (k < 64) }
     ensures { result ≡ (plan_at words.now k).rule }
@@ -267,6 +248,7 @@ pub fn plan_rule(words: &[u32], k: usize) -> u32
     plan_word(words, k, 2)
 }
 
+#[tactic(auto, unfolding(crate::specs::View::plan_at))]
 pub fn plan_left(words: &[u32], k: usize) -> u32
     requires { (length words.now ≡ 2432) × (k < 64) }
     ensures { result ≡ (plan_at words.now k).left }
@@ -274,6 +256,7 @@ pub fn plan_left(words: &[u32], k: usize) -> u32
     plan_word(words, k, 3)
 }
 
+#[tactic(auto, unfolding(crate::specs::View::plan_at))]
 pub fn plan_flags(words: &[u32], k: usize) -> u32
     requires { (length words.now ≡ 2432) × (k < 64) }
     ensures { result ≡ (plan_at words.now k).flags }
@@ -281,6 +264,7 @@ pub fn plan_flags(words: &[u32], k: usize) -> u32
     plan_word(words, k, 4)
 }
 
+#[tactic(auto, unfolding(crate::specs::View::plan_at))]
 pub fn plan_subgoal(words: &[u32], k: usize) -> u32
     requires { (length words.now ≡ 2432) × (k < 64) }
     ensures { result ≡ (plan_at words.now k).subgoal }
@@ -289,6 +273,7 @@ pub fn plan_subgoal(words: &[u32], k: usize) -> u32
 }
 
 // Justification j of plan k, 0 past the last.
+#[tactic(auto, using(crate::proofs::View::plan_justification_is))]
 pub fn plan_justification(words: &[u32], k: usize, j: usize) -> u32
     requires { (length words.now ≡ 2432) × (k < 64) × (j < 4) }
     ensures { result ≡ get_or (plan_at words.now k).justifications j 0 }
@@ -297,6 +282,7 @@ pub fn plan_justification(words: &[u32], k: usize, j: usize) -> u32
 }
 
 // The value of the variable in place i.
+#[tactic(auto, using(crate::proofs::View::plan_value_is))]
 pub fn plan_value(words: &[u32], k: usize, i: usize) -> u32
     requires { (length words.now ≡ 2432) × (k < 64) × (i < 8) }
     ensures { result ≡ get_or (plan_at words.now k).values i no_value }
@@ -308,28 +294,14 @@ fn plan_justifications(words: &[u32], k: usize) -> [u32; 4]
     requires { (length words.now ≡ 2432) × (k < 64) }
     ensures { trimmed result ≡ (plan_at words.now k).justifications }
 {
-    [
-        plan_justification(words, k, 0),
-        plan_justification(words, k, 1),
-        plan_justification(words, k, 2),
-        plan_justification(words, k, 3),
-    ]
+    std::array::from_fn(|j| plan_justification(words, k, j))
 }
 
 fn plan_values(words: &[u32], k: usize) -> [u32; 8]
     requires { (length words.now ≡ 2432) × (k < 64) }
     ensures { result ≡ (plan_at words.now k).values }
 {
-    [
-        plan_value(words, k, 0),
-        plan_value(words, k, 1),
-        plan_value(words, k, 2),
-        plan_value(words, k, 3),
-        plan_value(words, k, 4),
-        plan_value(words, k, 5),
-        plan_value(words, k, 6),
-        plan_value(words, k, 7),
-    ]
+    std::array::from_fn(|i| plan_value(words, k, i))
 }
 
 // Plan k, whole.
@@ -349,53 +321,55 @@ pub fn plan_at(words: &[u32], k: usize) -> Plan
     }
 }
 
-// Where the atom, the plan with this id stands; the count if there is none.
-pub fn find_atom(words: &[u32], atoms: u32, id: u32) -> usize
+// Where the atom with this id stands, if it is alive.
+pub fn find_atom(words: &[u32], atoms: u32, id: u32) -> Option<usize>
     requires { (length words.now ≡ 2432) × (atoms ≤ 256) × AtomsRise atoms words.now }
-    ensures { result ≡ index_of id (atom_ids_of atoms words.now) }
+    ensures { PlaceOf atoms id (atom_ids_of atoms words.now) result }
 {
     table::find(words, 1, atoms as usize, id)
 }
 
 // The same by a guess: the place that is guessed and the one behind it are looked at first. Any guess gives the same answer.
-pub fn find_near(words: &[u32], atoms: u32, id: u32, guess: usize) -> usize
+#[tactic(auto, using(crate::proofs::Near::near_is))]
+pub fn find_near(words: &[u32], atoms: u32, id: u32, guess: usize) -> Option<usize>
     requires { (length words.now ≡ 2432) × (atoms ≤ 256) × AtomsRise atoms words.now }
-    ensures { result ≡ index_of id (atom_ids_of atoms words.now) }
+    ensures { PlaceOf atoms id (atom_ids_of atoms words.now) result }
 {
     let n = atoms as usize;
     if n <= guess {
         return find_atom(words, atoms, id);
     }
     if words[guess] == id {
-        return guess;
+        return Some(guess);
     }
     let next = guess + 1;
     if n <= next {
         return find_atom(words, atoms, id);
     }
     if words[next] == id {
-        return next;
+        return Some(next);
     }
     find_atom(words, atoms, id)
 }
 
 // No atom has this id, by a guess of the atom before it.
+#[tactic(auto, using(crate::proofs::Near::found_is, crate::proofs::Near::gap_free))]
 pub fn is_free(words: &[u32], atoms: u32, id: u32, guess: usize) -> bool
     requires { (length words.now ≡ 2432) × (atoms ≤ 256) × AtomsRise atoms words.now }
     ensures { result ≡ not (member id (atom_ids_of atoms words.now)) }
 {
     let n = atoms as usize;
     if n <= guess {
-        return n <= find_atom(words, atoms, id);
+        return find_atom(words, atoms, id).is_none();
     }
     let next = guess + 1;
     if n <= next {
-        return n <= find_atom(words, atoms, id);
+        return find_atom(words, atoms, id).is_none();
     }
     if (words[guess] < id) & (id < words[next]) {
         return true;
     }
-    n <= find_atom(words, atoms, id)
+    find_atom(words, atoms, id).is_none()
 }
 
 // A guess of the atom before an id that no atom has: any number, and it is right where an earlier guess stands near.
@@ -427,30 +401,19 @@ pub fn place_near(words: &[u32], atoms: u32, id: u32, guess: usize) -> usize
 fn one_before(words: &[u32], n: usize, id: u32) -> usize
     requires { (length words.now ≡ 2432) × (n ≤ 256) }
 {
-    let mut low: usize = 0;
-    let mut high = n;
-    while low < high {
-        let middle = low + (high - low) / 2;
-        if words[middle] < id {
-            low = middle + 1;
-        } else {
-            high = middle;
-        }
-    }
-    if low == 0 {
-        return 0;
-    }
-    low - 1
+    words[..n].partition_point(|x| *x < id).saturating_sub(1)
 }
 
-pub fn find_plan(words: &[u32], plans: u32, id: u32) -> usize
+// Where the plan with this id stands, if it is alive.
+pub fn find_plan(words: &[u32], plans: u32, id: u32) -> Option<usize>
     requires { (length words.now ≡ 2432) × (plans ≤ 64) × PlansRise plans words.now }
-    ensures { result ≡ index_of id (plan_ids_of plans words.now) }
+    ensures { PlaceOf plans id (plan_ids_of plans words.now) result }
 {
     table::find(&words[PLANS_AT..], 18, plans as usize, id)
 }
 
 // A word of plan k becomes v.
+#[tactic(auto, unfolding(crate::specs::View::with_plan_word))]
 pub fn put_plan_word(words: &mut [u32], k: usize, column: usize, v: u32)
     requires { (length words.old ≡ 2432) × (k < 64) × (column < 18) }
     ensures { words.new ≡ with_plan_word words.old k column v }
@@ -458,30 +421,41 @@ pub fn put_plan_word(words: &mut [u32], k: usize, column: usize, v: u32)
     words[PLANS_AT + (k * 18 + column)] = v;
 }
 
-// "one more needed": 8 before 9, or 0 where there is room for an atom.
-pub fn room_for_atom(scalars: Scalars) -> u32
-    ensures { result ≡ atom_bar scalars.next scalars.atoms }
+// "one more needed", where n live of the most that may: 8 before the refusal that they are full.
+fn room_for(next: u32, n: u32, most: u32, full: Refusal) -> Result<(), Refusal>
+    ensures { RefusedBy (bar most (number_of full) next n) result }
 {
-    if scalars.next == Config::LAST_NEXT {
-        return 8;
+    if next == Config::LAST_NEXT {
+        return Err(Refusal::IdsSpent);
     }
-    if Config::MOST_ATOMS <= scalars.atoms {
-        return 9;
+    if most <= n {
+        return Err(full);
     }
-    0
+    Ok(())
 }
 
-// 8 before 10, or 0 where there is room for a plan.
-pub fn room_for_plan(scalars: Scalars) -> u32
-    ensures { result ≡ plan_bar scalars.next scalars.plans }
+// "8 before 9"
+pub fn room_for_atom(scalars: Scalars) -> Result<(), Refusal>
+    ensures { RefusedBy (atom_bar scalars.next scalars.atoms) result }
 {
-    if scalars.next == Config::LAST_NEXT {
-        return 8;
-    }
-    if Config::MOST_PLANS <= scalars.plans {
-        return 10;
-    }
-    0
+    room_for(
+        scalars.next,
+        scalars.atoms,
+        Config::MOST_ATOMS,
+        Refusal::AtomsFull,
+    )
+}
+
+// "8 before .. 10"
+pub fn room_for_plan(scalars: Scalars) -> Result<(), Refusal>
+    ensures { RefusedBy (plan_bar scalars.next scalars.plans) result }
+{
+    room_for(
+        scalars.next,
+        scalars.plans,
+        Config::MOST_PLANS,
+        Refusal::PlansFull,
+    )
 }
 
 // An atom is made. There is room for it.
@@ -561,10 +535,7 @@ pub fn clear_flag(words: &mut [u32], scalars: Scalars, k: usize, f: u32)
 pub fn one_less(x: u32) -> u32
     ensures { result ≡ x - 1 }
 {
-    if x == 0 {
-        return 0;
-    }
-    x - 1
+    x.saturating_sub(1)
 }
 
 // Plan k loses its first step.

@@ -10,7 +10,17 @@ use native.Mathlib.Omega.{arith}
 use Rattle.model.specs.Configuration.{most_atoms, most_plans, last_next}
 use Rattle.model.specs.Log.{Log, Outcome, refused, unless}
 use Rattle.model.specs.Calls.{room_for_atom, room_for_plan}
+use Rattle.std.specs.Prelude.{Option, Some, None, is_some}
+use mathlib.Core.List.{List}
+use borrow.Author.Tests.{lt-ltb, le-ltb}
+use lib.Dec.{ltb}
+use Rattle.lists.specs.Tables.{PlaceOf, index_of}
 use Rattle.state.specs.View.{atom_bar, plan_bar}
+
+-- a place is found where the number stands
+pub found : (n x : ℕ) (l : List ℕ) (r : Option ℕ) → PlaceOf n x l r → ltb (index_of x l) n ≡ is_some r
+found n x l None e = le-ltb (index_of x l) n (omega arith)
+found n x l (Some k) f = lt-ltb (index_of x l) n (omega arith)
 
 module _ (o : Outcome) (bar : ℕ) where
   barred_by : (x y : Bool) (n : ℕ) → (if x then 8 else if y then bar else 0) ≡ n → n ≢ 0 → unless x 8 (unless y bar o) ≡ refused n

@@ -7,7 +7,7 @@ use native.Mathlib.Nat.{mul-le-mul_right, suc-mul, add-zero}
 use native.Mathlib.Numerals.{add-one}
 use native.Mathlib.Omega.{arith}
 use lib.ListN.{length, take, drop, get_or, set, take-append-drop, length-drop, length-map, get_or-map}
-use lib.Seq.{take-take, drop-set-add, take-set-lt, take-set-le, drop-set-lt, paste, paste-suc, length-paste, take_at, drop_at, drop-append-add, take-append-le, drop-append-le, get_or-take, get_or-drop, take-add, drop-drop, length-take-le, take_all, get_or-append-add, length_paste_head}
+use lib.Seq.{take-take, drop-set-add, take-set-lt, take-set-le, drop-set-lt, length-paste, take_at, drop_at, drop-append-add, take-append-le, drop-append-le, get_or-take, get_or-drop, take-add, drop-drop, length-take-le, take_all, length_paste_head}
 use Rattle.lists.specs.Lists.{Pairs}
 use Rattle.lists.specs.Tables.{index_of}
 use Rattle.lists.proofs.Tables.{equal_or_not, less_or_more, pairs_get, tabulate_length, tabulate_at, tabulate_append, index_is}
@@ -45,24 +45,6 @@ row_past w A l n i e h =
     let q : length A + (i * w - n) ≡ i * w = omega arith in
     let q2 : n + (i * w - n) ≡ i * w = omega arith in
     rw (← q, drop-append-add A (drop n l) (i * w - n), drop-drop (i * w - n) n l, q2, q)
-
--- a copy in place has not reached what lies past it
-paste_past : (d : List ℕ) (at : ℕ) (s : List ℕ) (n x : ℕ) → at + n ≤ x → at ≤ length d → n ≤ length s → get_or (paste d at s n) x 0 ≡ get_or d x 0
-paste_past d at s n x h hd hs =
-    let e : length (take at d ++ take n s) ≡ at + n = length_paste_head d at s n hd hs in
-    let q : length (take at d ++ take n s) + (x - (at + n)) ≡ x = omega arith in
-    let q2 : at + n + (x - (at + n)) ≡ x = omega arith in
-    ap (λ (y : ℕ). get_or (paste d at s n) y 0) (sym q)
-    ∙ get_or-append-add (take at d ++ take n s) (drop (at + n) d) (x - (at + n)) 0
-    ∙ get_or-drop (at + n) d (x - (at + n)) 0
-    ∙ ap (λ (y : ℕ). get_or d y 0) q2
-
--- one number more of the record i is copied down to the place at
-pub copy_more : (w : ℕ) (l : List ℕ) (i at j : ℕ) → at ≤ i * w → i * w + w ≤ length l → j < w → set (paste l at (row w l i) j) (at + j) (get_or (paste l at (row w l i) j) (i * w + j) 0) ≡ paste l at (row w l i) (j + 1)
-copy_more w l i at j h f hj =
-    let e : length (row w l i) ≡ w = row_long w l i f in
-    rw (add-one, paste_past l at (row w l i) j (i * w + j) (omega arith) (omega arith) (omega arith), ← row_at w l i j hj)
-    (paste-suc l at (row w l i) j 0 (omega arith) (omega arith))
 
 -- a record in its own place
 pub placed_self : (w : ℕ) (l : List ℕ) (k : ℕ) → l ≡ placed w l k (row w l k)
@@ -190,13 +172,22 @@ module _ (w n : ℕ) (l : List ℕ) (hw : 0 < w) where
   pub keys_at : (k : ℕ) → k < n → get_or (keys w n l) k 0 ≡ get_or l (k * w) 0
   keys_at k h = get_or-map key (rows w n l) k [] ∙ ap key (tabulate_at n (row w l) k [] h) ∙ key_row w l k hw
 
-  -- no record before i has the id, and record i has it if there is one
-  pub found_at : (id i : ℕ) → ((k : ℕ) → k < i → get_or l (k * w) 0 ≡ id → ⊥) → i ≤ n → (i < n → get_or l (i * w) 0 ≡ id) → i ≡ index_of id (keys w n l)
-  found_at id i none h here =
+  -- record i has the id, and no record before it
+  pub found_at : (id i : ℕ) → ((k : ℕ) → k < i → get_or l (k * w) 0 < id) → i < n → get_or l (i * w) 0 ≡ id → i ≡ index_of id (keys w n l)
+  found_at id i low h here =
       let z = keys_length in
       index_is id (keys w n l) i (omega arith)
-      (λ (k : ℕ) (hk : k < i) (e : get_or (keys w n l) k 0 ≡ id). none k hk (sym (keys_at k (omega arith)) ∙ e))
-      (λ (q : i < length (keys w n l)). let hi : i < n = omega arith in keys_at i hi ∙ here hi)
+      (λ (k : ℕ) (hk : k < i) (e : get_or (keys w n l) k 0 ≡ id). let y = low k hk in let q = keys_at k (omega arith) in omega arith)
+      (λ (q : i < length (keys w n l)). keys_at i h ∙ here)
+
+  -- no record has it
+  pub missing : (id : ℕ) → ((k : ℕ) → k < n → get_or l (k * w) 0 ≡ id → ⊥) → index_of id (keys w n l) ≡ n
+  missing id none =
+      let z = keys_length in
+      sym
+      (index_is id (keys w n l) n (omega arith)
+      (λ (k : ℕ) (hk : k < n) (e : get_or (keys w n l) k 0 ≡ id). none k hk (sym (keys_at k hk) ∙ e))
+      (λ (q : n < length (keys w n l)). absurd (omega arith)))
 
   module _ (r : Pairs (λ x y. x < y) (keys w n l)) where
     rise : (i j : ℕ) → i < j → j < n → get_or l (i * w) 0 < get_or l (j * w) 0

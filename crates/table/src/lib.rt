@@ -3,7 +3,7 @@
 
 ghost use Rattle.std.specs.Prelude.{◌≡◌, ◌*◌, ◌+◌, ◌<◌, ◌≤◌, length, drop, get_or};
 ghost use Rattle.lists.specs.Lists.{Pairs};
-ghost use Rattle.lists.specs.Tables.{keep_by, index_of};
+ghost use Rattle.lists.specs.Tables.{keep_by, PlaceOf};
 ghost use Rattle.table.specs.Rows.{row, rows, keys, placed};
 
 // The number in a column of record k.
@@ -20,11 +20,7 @@ pub fn write(words: &mut [u32], width: usize, k: usize, numbers: &[u32])
     ensures { words.new ≡ placed width words.old k numbers.now }
 {
     let at = k * width;
-    let mut j: usize = 0;
-    while j < width {
-        words[at + j] = numbers[j];
-        j += 1;
-    }
+    words[at..at + width].copy_from_slice(numbers);
 }
 
 // Record k becomes a copy of record i, which does not stand before it.
@@ -36,12 +32,7 @@ pub fn copy_down(words: &mut [u32], width: usize, i: usize, k: usize)
         return;
     }
     let from = i * width;
-    let at = k * width;
-    let mut j: usize = 0;
-    while j < width {
-        words[at + j] = words[from + j];
-        j += 1;
-    }
+    words.copy_within(from..from + width, k * width);
 }
 
 // Of the first n records those whose mark is true, in their order; their number. What lies behind the n records stays.
@@ -49,23 +40,22 @@ pub fn keep(words: &mut [u32], width: usize, n: usize, marks: &[bool]) -> usize
     requires { (n * width ≤ length words.old) × (n ≤ length marks.now) }
     ensures { (result ≤ n) × (rows width result words.new ≡ keep_by marks.now (rows width n words.old)) × (drop (n * width) words.new ≡ drop (n * width) words.old) }
 {
-    let mut i: usize = 0;
     let mut j: usize = 0;
-    while i < n {
+    for i in 0..n {
         if marks[i] {
             copy_down(words, width, i, j);
             j += 1;
         }
-        i += 1;
     }
     j
 }
 
-// Where the record stands whose first number is id, or n: by halves, since the first numbers rise.
-pub fn find(words: &[u32], width: usize, n: usize, id: u32) -> usize
+// Where the record stands whose first number is id, if there is one: by halves, since the first numbers rise.
+pub fn find(words: &[u32], width: usize, n: usize, id: u32) -> Option<usize>
     requires { (0 < width) × (n * width ≤ length words.now) × Pairs (λ x y. x < y) (keys width n words.now) }
-    ensures { result ≡ index_of id (keys width n words.now) }
+    ensures { PlaceOf n id (keys width n words.now) result }
 {
+    // kept: the library searches the elements of a slice by halves; these records have a width known only at run time
     let mut low: usize = 0;
     let mut high = n;
     while low < high {
@@ -76,11 +66,8 @@ pub fn find(words: &[u32], width: usize, n: usize, id: u32) -> usize
             high = middle;
         }
     }
-    if n <= low {
-        return n;
+    if low < n && words[low * width] == id {
+        return Some(low);
     }
-    if words[low * width] == id {
-        return low;
-    }
-    n
+    None
 }

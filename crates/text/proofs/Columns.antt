@@ -1,4 +1,5 @@
 -- A line of eight integers, column by column.
+use Rattle.std.specs.Prelude.{Some, None}
 use Prim.Native.Nat.{ℕ, suc, ◌+◌, ◌*◌, ◌-◌, ◌≤◌, ◌<◌}
 use mathlib.Core.Path.{◌≡◌, refl, ap, ap₂, ◌∙◌, sym}
 use mathlib.Core.Bool.{Bool, true, false}
@@ -14,9 +15,7 @@ use Rattle.lists.specs.Lists.{within}
 use Rattle.model.specs.Text.{digits, digit?, counting, positive, negative, read_int, number, unreadable, columns, column, last_column, after, row_of, read_row}
 use Rattle.model.specs.Text as Text
 use Rattle.text.specs.Reading.{read_of, int_at, as_line, row_line, line_of}
-use Rattle.text.specs.declared.Cursor.{Cursor}
-use Rattle.text.specs.declared.Read.TheVariants.{Number, Unreadable}
-use Rattle.text.specs.declared.Line.TheVariants.{Unread}
+use Rattle.text.specs.declared.Digits.{Digits}
 use Rattle.lists.proofs.Cuts.{if_either, drop_next, Suffix, suffix_self, suffix_cons, suffix_drop}
 
 -- what is left of a text after an integer is its end
@@ -53,15 +52,15 @@ pub record Got (s : List ℕ) (at x n : ℕ) : Type 0 where
   pub inside : n ≤ length s
 
 module _ (s : List ℕ) (at : ℕ) where
-  pub got : {x : ℕ} {c : Cursor} → Number x c ≡ int_at s at → Got s at x c.at
+  pub got : {d : Digits} → Some d ≡ int_at s at → Got s at d.value d.next
   unfolding int_at
-  got {x} {c} e = go (read_int (drop at s)) refl (int_suffix (drop at s)) e
+  got {d} e = go (read_int (drop at s)) refl (int_suffix (drop at s)) e
     where
-      go : (r : Text.Read) → read_int (drop at s) ≡ r → LeavesEnd (drop at s) r → Number x c ≡ read_of s r → Got s at x c.at
+      go : (r : Text.Read) → read_int (drop at s) ≡ r → LeavesEnd (drop at s) r → Some d ≡ read_of s r → Got s at d.value d.next
       go unreadable q l p = let z : ◌≡◌ {A = ℕ} 0 1 = cc in absurd (omega arith)
       go (number v cs) q l p =
-          let e₀ : x ≡ v = cc in
-          let e₁ : c.at ≡ length s - length cs = cc in
+          let e₀ : d.value ≡ v = cc in
+          let e₁ : d.next ≡ length s - length cs = cc in
           let w = suffix_drop at s l in
           let h = w.short in
           record {
@@ -69,11 +68,11 @@ module _ (s : List ℕ) (at : ℕ) where
             inside = omega arith;
           }
 
-  pub not_got : Unreadable ≡ int_at s at → read_int (drop at s) ≡ unreadable
+  pub not_got : None ≡ int_at s at → read_int (drop at s) ≡ unreadable
   unfolding int_at
   not_got e = go (read_int (drop at s)) refl e
     where
-      go : (r : Text.Read) → read_int (drop at s) ≡ r → Unreadable ≡ read_of s r → read_int (drop at s) ≡ unreadable
+      go : (r : Text.Read) → read_int (drop at s) ≡ r → None ≡ read_of s r → read_int (drop at s) ≡ unreadable
       go unreadable q p = q
       go (number v cs) q p = let z : ◌≡◌ {A = ℕ} 0 1 = cc in absurd (omega arith)
 
@@ -108,7 +107,7 @@ columns_begin line v h = record { inside = omega arith; few = omega arith; cells
 
 module _ {line v : List ℕ} {at k : ℕ} (w : Columns line v at k) where
   -- a line with a unreadable column
-  unread : columns (7 - k) (drop at line) ≡ none → Unread ≡ line_of line
+  unread : columns (7 - k) (drop at line) ≡ none → None ≡ line_of line
   unfolding line_of read_row row_of
   unread e = rw (w.same, e, after_none (take k v))
 
@@ -117,26 +116,26 @@ module _ {line v : List ℕ} {at k : ℕ} (w : Columns line v at k) where
     unfolding columns
     one_more = let e : 7 - k ≡ suc (7 - (k + 1)) = omega arith in rw e
 
-    pub unreadable_column : Unreadable ≡ int_at line at → Unread ≡ line_of line
+    pub unreadable_column : None ≡ int_at line at → None ≡ line_of line
     unfolding column
     unreadable_column b = unread (rw (one_more, not_got line at b))
 
-    module _ {x : ℕ} {c : Cursor} (e : Number x c ≡ int_at line at) where
-      pub short_line : length line ≤ c.at → Unread ≡ line_of line
+    module _ {d : Digits} (e : Some d ≡ int_at line at) where
+      pub short_line : length line ≤ d.next → None ≡ line_of line
       unfolding column
       short_line l = unread (rw (one_more, (got line at e).reads, drop_of_length-le line l))
 
-      pub no_space : c.at < length line → (get_or line c.at 0 ≡ 32 → ⊥) → Unread ≡ line_of line
+      pub no_space : d.next < length line → (get_or line d.next 0 ≡ 32 → ⊥) → None ≡ line_of line
       unfolding column
-      no_space l f = unread (rw (one_more, (got line at e).reads, drop_next 0 line c.at l) (rw (ne_eqb _ _ f, column)))
+      no_space l f = unread (rw (one_more, (got line at e).reads, drop_next 0 line d.next l) (rw (ne_eqb _ _ f, column)))
 
-      pub next_column : c.at < length line → get_or line c.at 0 ≡ 32 → Columns line (set v k x) (c.at + 1) (k + 1)
+      pub next_column : d.next < length line → get_or line d.next 0 ≡ 32 → Columns line (set v k d.value) (d.next + 1) (k + 1)
       unfolding column
       next_column l f =
           let n = w.cells in
-          let e₂ : columns (7 - k) (drop at line) ≡ after x (columns (7 - (k + 1)) (drop (c.at + 1) line))
-          = rw (one_more, (got line at e).reads, drop_next 0 line c.at l, f) in
-          let t : take (k + 1) (set v k x) ≡ take k v ++ (x ∷ []) = rw (add-one, take-suc-set v k x (omega arith)) in
+          let e₂ : columns (7 - k) (drop at line) ≡ after d.value (columns (7 - (k + 1)) (drop (d.next + 1) line))
+          = rw (one_more, (got line at e).reads, drop_next 0 line d.next l, f) in
+          let t : take (k + 1) (set v k d.value) ≡ take k v ++ (d.value ∷ []) = rw (add-one, take-suc-set v k d.value (omega arith)) in
           record { inside = omega arith; few = omega arith; cells = rw length-set n; same = rw (t, after_snoc) (w.same ∙ ap (after_all (take k v)) e₂) }
 
   module _ (h : 7 ≤ k) where
@@ -144,26 +143,26 @@ module _ {line v : List ℕ} {at k : ℕ} (w : Columns line v at k) where
     unfolding columns
     last_one = let f = w.few in let e : 7 - k ≡ 0 = omega arith in rw e
 
-    pub unreadable_last : Unreadable ≡ int_at line at → Unread ≡ line_of line
+    pub unreadable_last : None ≡ int_at line at → None ≡ line_of line
     unfolding last_column
     unreadable_last b = unread (rw (last_one, not_got line at b))
 
-    module _ {x : ℕ} {c : Cursor} (e : Number x c ≡ int_at line at) where
-      pub long_line : (c.at ≡ length line → ⊥) → Unread ≡ line_of line
+    module _ {d : Digits} (e : Some d ≡ int_at line at) where
+      pub long_line : (d.next ≡ length line → ⊥) → None ≡ line_of line
       unfolding last_column
       long_line f =
           let i = (got line at e).inside in
-          unread (rw (last_one, (got line at e).reads, drop_next 0 line c.at (omega (arith, f))))
+          unread (rw (last_one, (got line at e).reads, drop_next 0 line d.next (omega (arith, f))))
 
-      pub whole_line : c.at ≡ length line → row_line (set v 7 x) ≡ line_of line
+      pub whole_line : d.next ≡ length line → row_line (set v 7 d.value) ≡ line_of line
       unfolding line_of read_row row_line last_column
       whole_line f =
           let l = w.few in
           let n = w.cells in
           let k₇ : k ≡ 7 = omega arith in
-          let t : set v 7 x ≡ take 7 v ++ (x ∷ []) = sym (take_all 8 (set v 7 x) (rw length-set (omega arith))) ∙ take-suc-set v 7 x (omega arith) in
-          let e₂ : columns 7 line ≡ some (take 7 v ++ (x ∷ []))
-          = w.same ∙ rw (last_one, (got line at e).reads, drop_of_length-le line {i = c.at} (omega arith), k₇, after_some) in
+          let t : set v 7 d.value ≡ take 7 v ++ (d.value ∷ []) = sym (take_all 8 (set v 7 d.value) (rw length-set (omega arith))) ∙ take-suc-set v 7 d.value (omega arith) in
+          let e₂ : columns 7 line ≡ some (take 7 v ++ (d.value ∷ []))
+          = w.same ∙ rw (last_one, (got line at e).reads, drop_of_length-le line {i = d.next} (omega arith), k₇, after_some) in
           ap (λ (o : Option (List ℕ)). as_line (row_of o)) (ap some t ∙ sym e₂)
 
-pub ruleset line-laws = (columns_begin, unreadable_column, short_line, no_space, next_column, unreadable_last, long_line, whole_line)
+pub ruleset line_laws = (columns_begin, unreadable_column, short_line, no_space, next_column, unreadable_last, long_line, whole_line)

@@ -1,16 +1,16 @@
--- The end of a line, and the names line.
+-- The end of a line, and equal lists.
 use Prim.Native.Nat.{ℕ, zero, suc, ◌+◌, ◌-◌, ◌≤◌, ◌<◌}
-use mathlib.Core.Path.{◌≡◌, refl, ap, ◌∙◌, sym, subst}
-use mathlib.Core.Bool.{Bool, true, false}
+use mathlib.Core.Path.{◌≡◌, refl, ap, ◌∙◌, subst}
+use mathlib.Core.Bool.{Bool, true, false, ◌&&◌}
 use mathlib.Core.List.{List, [], ◌∷◌, ◌++◌, append-nil}
 use native.Mathlib.Omega.{arith}
 use lib.ListN.{length, drop, take, get_or, length-drop, length-take, drop_of_length-le}
 use lib.Seq.{take-suc, get_or-drop}
 use lib.Dec.{eqb}
-use borrow.Author.Tests.{eq-eqb, ne_eqb, eqb-true, eqb-false}
+use borrow.Author.Tests.{ne_eqb, eqb-true}
 use mathlib.Core.Logic.{◌≢◌}
-use Rattle.model.specs.Text.{lines, Lines, line, end, unended, onto, names}
-use Rattle.model.specs.Text as Text
+use Rattle.std.specs.Cmp.Lexicographic.{pointwise}
+use Rattle.model.specs.Text.{lines, Lines, line, end, unended, onto}
 use Rattle.lists.specs.Lists.{same}
 use Rattle.text.specs.Reading.{Ends}
 use Rattle.lists.proofs.Cuts.{drop_next}
@@ -47,17 +47,17 @@ unfolding lines
 lines_end text i h = rw (drop_of_length-le text h)
 
 -- no byte 10 from `from` up to i
-pub record Looking (text : List ℕ) (from i : ℕ) : Type 0 where
+record Looking (text : List ℕ) (from i : ℕ) : Type 0 where
   pub low : from ≤ i
   pub high : i ≤ length text
   pub so_far : lines (drop from text) ≡ onto_all (take (i - from) (drop from text)) (lines (drop i text))
 
 module _ (text : List ℕ) (from : ℕ) where
-  pub look : from ≤ length text → Looking text from from
+  look : from ≤ length text → Looking text from from
   look h = let e : from - from ≡ 0 = omega arith in record { low = omega arith; high = h; so_far = rw e }
 
   module _ {i : ℕ} (w : Looking text from i) where
-    pub look_on : i < length text → (get_or text i 0 ≡ 10 → ⊥) → Looking text from (i + 1)
+    look_on : i < length text → (get_or text i 0 ≡ 10 → ⊥) → Looking text from (i + 1)
     look_on h n =
         let l = w.low in
         let e : i + 1 - from ≡ suc (i - from) = omega arith in
@@ -66,32 +66,25 @@ module _ (text : List ℕ) (from : ℕ) where
         = take-suc (drop from text) (i - from) 0 (rw length-drop (omega arith)) ∙ ap (λ (x : ℕ). take (i - from) (drop from text) ++ (x ∷ [])) g in
         record { low = omega arith; high = omega arith; so_far = rw (e, t, onto_snoc) (w.so_far ∙ ap (onto_all (take (i - from) (drop from text))) (lines_byte text i h n)) }
 
-    pub look_found : i < length text → get_or text i 0 ≡ 10 → Ends text from i
-    look_found h e =
-        let l = w.low in
-        record {
-          low = w.low;
-          high = w.high;
-          ended = λ k. w.so_far ∙ rw (lines_ten text i h e, onto_line, append-nil);
-          no_end = λ k. absurd (omega arith);
-        }
-
-    pub look_end : length text ≤ i → Ends text from i
-    look_end h =
-        record {
-          low = w.low;
-          high = w.high;
-          ended = λ k. absurd (omega arith);
-          no_end = λ k m. w.so_far ∙ rw (lines_end text i h) (onto_end (take (i - from) (drop from text)) (rw (length-take, length-drop) (omega arith)));
-        }
-
 -- past so many bytes of which none is byte 10
-pub look_past : (text : List ℕ) (from d : ℕ) → from + d ≤ length text → ((k : ℕ) → from ≤ k → k < from + d → get_or text k 0 ≢ 10) → Looking text from (from + d)
+look_past : (text : List ℕ) (from d : ℕ) → from + d ≤ length text → ((k : ℕ) → from ≤ k → k < from + d → get_or text k 0 ≢ 10) → Looking text from (from + d)
 look_past text from zero h n = let e : from ≡ from + 0 = omega arith in subst (Looking text from) e (look text from (omega arith))
 look_past text from (suc d) h n =
     let e : (from + d) + 1 ≡ from + suc d = omega arith in
     let before = look_past text from d (omega arith) (λ k p q. n k p (omega arith)) in
     subst (Looking text from) e (look_on text from before (omega arith) (n (from + d) (omega arith) (omega arith)))
+
+-- the first byte 10 from `from` on stands at r, or none does and r is the length
+pub ends_at : (text : List ℕ) (from r : ℕ) → from ≤ r → r ≤ length text → ((k : ℕ) → from ≤ k → k < r → get_or text k 0 ≢ 10) → (r < length text → get_or text r 0 ≡ 10) → Ends text from r
+ends_at text from r low high none here =
+    let e : from + (r - from) ≡ r = omega arith in
+    let w : Looking text from r = subst (Looking text from) e (look_past text from (r - from) (omega arith) (λ k p q. none k p (omega arith))) in
+    record {
+      low = low;
+      high = high;
+      ended = λ k. w.so_far ∙ rw (lines_ten text r k (here k), onto_line, append-nil);
+      no_end = λ k m. w.so_far ∙ rw (lines_end text r k) (onto_end (take (r - from) (drop from text)) (rw (length-take, length-drop) (omega arith)));
+    }
 
 -- byte 10 stands where a line ends
 ended_by : (cs l : List ℕ) (ls : Lines) → lines cs ≡ line l ls → get_or cs (length l) 0 ≡ 10
@@ -119,59 +112,10 @@ newline_at {text} {from} {r} w h =
     let q : from + (r - from) ≡ r = omega arith in
     (rw (n, get_or-drop, q) at (ended_by (drop from text) _ _ (w.ended h)))
 
--- the names line, up to i
-pub record Matching (given meant : List ℕ) (i : ℕ) : Type 0 where
-  pub few : i ≤ 24
-  pub inside : i ≤ length given
-  pub meant_is : meant ≡ names
-  pub so_far : same given names ≡ same (drop i given) (drop i names)
-
-names_length : length names ≡ 24
-unfolding names Text.bytes
-names_length = refl
-
-pub match_begin : (given meant : List ℕ) → meant ≡ names → Matching given meant 0
-match_begin given meant e = record { few = omega arith; inside = omega arith; meant_is = e; so_far = refl }
-
-module _ {given meant : List ℕ} {i : ℕ} (w : Matching given meant i) where
-  pub match_short : i < 24 → length given ≤ i → false ≡ same given names
-  unfolding same
-  match_short h k = let n = names_length in rw (w.so_far, drop_of_length-le given k, drop_next 0 names i (omega arith))
-
-  pub match_differs : i < 24 → i < length given → (get_or given i 0 ≡ get_or meant i 0 → ⊥) → false ≡ same given names
-  unfolding same
-  match_differs h k d =
-      let n = names_length in
-      let f : get_or given i 0 ≡ get_or names i 0 → ⊥ = λ q. d (q ∙ ap (λ (l : List ℕ). get_or l i 0) (sym w.meant_is)) in
-      rw (w.so_far, drop_next 0 given i k, drop_next 0 names i (omega arith), ne_eqb _ _ f)
-
-  pub match_on : i < 24 → i < length given → get_or given i 0 ≡ get_or meant i 0 → Matching given meant (i + 1)
-  unfolding same
-  match_on h k d =
-      let n = names_length in
-      let f : get_or given i 0 ≡ get_or names i 0 = d ∙ ap (λ (l : List ℕ). get_or l i 0) w.meant_is in
-      record {
-        few = omega arith;
-        inside = omega arith;
-        meant_is = w.meant_is;
-        so_far = w.so_far ∙ rw (drop_next 0 given i k, drop_next 0 names i (omega arith), eq-eqb _ _ f);
-      }
-
-  pub match_end : 24 ≤ i → eqb (length given) 24 ≡ same given names
-  unfolding same
-  match_end h = go (eqb (length given) 24) refl
-    where
-      go : (b : Bool) → eqb (length given) 24 ≡ b → eqb (length given) 24 ≡ same given names
-      go true t =
-          let n = names_length in
-          let f = w.few in
-          let e = eqb-true (length given) 24 t in
-          rw (t, w.so_far, drop_of_length-le given {i = i} (omega arith), drop_of_length-le names {i = i} (omega arith))
-      go false t =
-          let n = names_length in
-          let f = w.few in
-          let l = w.inside in
-          let e : length given ≢ 24 = eqb-false (length given) 24 t in
-          rw (t, w.so_far, drop_of_length-le names {i = i} (omega arith), drop_next 0 given i (omega arith))
-
-pub ruleset names-laws = (match_begin, match_short, match_differs, match_on, match_end)
+-- equal lists, as the library tests them
+pub same_pointwise : (l m : List ℕ) → pointwise eqb l m ≡ same l m
+unfolding same
+same_pointwise [] [] = refl
+same_pointwise [] (y ∷ m) = refl
+same_pointwise (x ∷ l) [] = refl
+same_pointwise (x ∷ l) (y ∷ m) = ap (λ b. eqb x y && b) (same_pointwise l m)

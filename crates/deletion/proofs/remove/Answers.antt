@@ -13,9 +13,6 @@ use Rattle.deletion.proofs.remove.Goals as goal
 pub mark-requires : goal.mark-requires
 mark-requires c = (c.requires, refl, λ k h. get_or-replicate 320 k true false h)
 
-pub overflow_add-result : goal.overflow_add-result
-overflow_add-result c = let h = c.requires in record { fits = omega (arith, h.few_atoms, h.few_plans) }
-
 pub returns : goal.returns
 returns c =
     let a = c.args in

@@ -1,7 +1,6 @@
 -- The first step decides, then the subgoal.
 use mathlib.Core.Path.{sym, ap, ◌∙◌}
 use mathlib.Core.List.{List}
-use borrow.Author.Tests.{not-true, not-false}
 use Rattle.model.specs.declared.Row.{Row}
 use Rattle.model.specs.Configuration.{Plan, Config, remainder}
 use Rattle.model.specs.Log.{begin, answer_of}
@@ -10,16 +9,15 @@ use Rattle.state.specs.View.{plan_at, config_of}
 use Rattle.executing.proofs.Taken.{plan_empty, plan_held, plan_steps}
 use Rattle.executing.proofs.execute_plan.Goals as goal
 
-pub returns-then-not-x : goal.returns-then-not-x
-returns-then-not-x c =
+pub returns-in_default : goal.returns-in_default
+returns-in_default c =
     let a = c.args in
     let C : Config = config_of a.words.now a.scalars in
     let q : Plan = plan_at a.words.now a.k in
     let R : List Row = remainder (rows_of a.program.now) q in
-    let x = c.next_step-x in
     let r = c.pass_over in
     record {
-      result_after = r.ensures.result_after ∙ ap (answer_of C) (sym (plan_empty q R (begin C) x.result.row x.result.found x.ensures (not-true x.result.found c.if-not-x.true)));
+      result_after = r.ensures.result_after ∙ ap (answer_of C) (sym (plan_empty q R (begin C) c.in_default.ensures));
       untouched = λ z. absurd (z r.ensures.number);
     }
 
@@ -29,10 +27,9 @@ returns-then-plan_subgoal-ne0 c =
     let C : Config = config_of a.words.now a.scalars in
     let q : Plan = plan_at a.words.now a.k in
     let R : List Row = remainder (rows_of a.program.now) q in
-    let x = c.next_step-x in
     let r = c.pass_over-then-plan_subgoal-ne0 in
     record {
-      result_after = r.ensures.result_after ∙ ap (answer_of C) (sym (plan_held q R (begin C) x.result.row x.result.found x.ensures (not-false x.result.found c.if-not-x.false) (λ z. c.if-plan_subgoal-ne0.true (c.plan_subgoal.ensures ∙ z))));
+      result_after = r.ensures.result_after ∙ ap (answer_of C) (sym (plan_held q R (begin C) c.in-Some.row c.in-Some.ensures (λ z. c.if-plan_subgoal-ne0.true (c.plan_subgoal.ensures ∙ z))));
       untouched = λ z. absurd (z r.ensures.number);
     }
 
@@ -42,9 +39,8 @@ returns c =
     let C : Config = config_of a.words.now a.scalars in
     let q : Plan = plan_at a.words.now a.k in
     let R : List Row = remainder (rows_of a.program.now) q in
-    let x = c.next_step-x in
     let r = c.take_step in
     record {
-      result_after = r.ensures.result_after ∙ ap (answer_of C) (sym (plan_steps q R (begin C) x.result.row x.result.found x.ensures (not-false x.result.found c.if-not-x.false) (sym c.plan_subgoal.ensures ∙ c.if-plan_subgoal-ne0.false)));
+      result_after = r.ensures.result_after ∙ ap (answer_of C) (sym (plan_steps q R (begin C) c.in-Some.row c.in-Some.ensures (sym c.plan_subgoal.ensures ∙ c.if-plan_subgoal-ne0.false)));
       untouched = r.ensures.untouched;
     }

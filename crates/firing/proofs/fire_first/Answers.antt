@@ -1,7 +1,5 @@
-use mathlib.Core.Path.{refl, ap, ◌∙◌}
+use mathlib.Core.Path.{ap, ◌∙◌}
 use native.Mathlib.Omega.{arith}
-use borrow.Author.Rules.{rules}
-use borrow.Author.Tests.{not-true, not-false}
 use Rattle.model.specs.Log.{answer_of}
 use Rattle.program.specs.Rows.{rows_of}
 use Rattle.program_laws.proofs.Sets.{sets_few}
@@ -10,8 +8,8 @@ use Rattle.stepping.proofs.Standing.{lawful_rows}
 use Rattle.firing.proofs.Fired.{well_limits, moved, object_fires, meta_fires, raises, acts}
 use Rattle.firing.proofs.fire_first.Goals as goal
 
-pub choose-x-requires : goal.choose-x-requires
-choose-x-requires c =
+pub choose-requires : goal.choose-requires
+choose-requires c =
     let a = c.args in
     let w = c.requires.0 in
     (lawful_rows a.program.now a.words.now a.scalars w, well_limits a.program.now a.words.now a.scalars w)
@@ -23,46 +21,31 @@ overflow_add-scalars c =
     let h = sets_few (rows_of a.program.now) (lawful_rows a.program.now a.words.now a.scalars p.0) in
     omega (arith, p.2)
 
-pub returns-then-not-x : goal.returns-then-not-x
-returns-then-not-x c =
+pub returns-in_default-clause-result_after : goal.returns-in_default-clause-result_after
+returns-in_default-clause-result_after c =
     let a = c.args in
-    let x = c.choose-x in record {
-      result_after = moved a.program.now a.words.now a.scalars x.result x.ensures.is (not-true _ c.if-not-x.true) _ c.with_phase.ensures;
-      untouched = λ z. refl;
-    }
+    moved a.program.now a.words.now a.scalars c.in_default.ensures.is _ c.with_phase.ensures
 
 pub fire_object-requires : goal.fire_object-requires
 fire_object-requires c =
     let a = c.args in
-    let p = c.requires in
-    let x = c.choose-x in
-    let f = not-false _ c.if-not-x.false in
-    raises a.program.now a.words.now a.scalars x.result x.ensures.is f (x.ensures.chosen f) p.0 p.1 c.if-rule.true
+    let x = c.in-Some in
+    raises a.program.now a.words.now a.scalars x.x x.ensures.is x.ensures.chosen c.requires.0 c.requires.1 c.if-rule.true
 
-pub returns-then-rule : goal.returns-then-rule
-returns-then-rule c =
+pub returns-then-rule-clause-result_after : goal.returns-then-rule-clause-result_after
+returns-then-rule-clause-result_after c =
     let a = c.args in
-    let x = c.choose-x in
-    let f = not-false _ c.if-not-x.false in
-    let r = c.fire_object in record {
-      result_after = r.ensures.result_after ∙ ap (answer_of (config_of a.words.now a.scalars)) (object_fires a.program.now a.words.now a.scalars x.result x.ensures.is f (x.ensures.chosen f) c.if-rule.true);
-      untouched = r.ensures.untouched;
-    }
+    let x = c.in-Some in
+    c.fire_object.ensures.result_after ∙ ap (answer_of (config_of a.words.now a.scalars)) (object_fires a.program.now a.words.now a.scalars x.x x.ensures.is x.ensures.chosen c.if-rule.true)
 
 pub fire_meta-requires : goal.fire_meta-requires
 fire_meta-requires c =
     let a = c.args in
-    let p = c.requires in
-    let x = c.choose-x in
-    let f = not-false _ c.if-not-x.false in
-    acts a.program.now a.words.now a.scalars x.result x.ensures.is f (x.ensures.chosen f) p.0 p.1 c.if-rule.false
+    let x = c.in-Some in
+    acts a.program.now a.words.now a.scalars x.x x.ensures.is x.ensures.chosen c.requires.0 c.requires.1 c.if-rule.false
 
-pub returns : goal.returns
-returns c =
+pub returns-clause-result_after : goal.returns-clause-result_after
+returns-clause-result_after c =
     let a = c.args in
-    let x = c.choose-x in
-    let f = not-false _ c.if-not-x.false in
-    let r = c.fire_meta in record {
-      result_after = r.ensures.result_after ∙ ap (answer_of (config_of a.words.now a.scalars)) (meta_fires a.program.now a.words.now a.scalars x.result x.ensures.is f (x.ensures.chosen f) c.if-rule.false);
-      untouched = r.ensures.untouched;
-    }
+    let x = c.in-Some in
+    c.fire_meta.ensures.result_after ∙ ap (answer_of (config_of a.words.now a.scalars)) (meta_fires a.program.now a.words.now a.scalars x.x x.ensures.is x.ensures.chosen c.if-rule.false)

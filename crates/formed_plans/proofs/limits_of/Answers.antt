@@ -10,16 +10,7 @@ loop-j-preserved c =
     let a = c.args in
     limiting_more a.program.now a.from a.to c.loop-j.j c.loop-j-test.true c.loop-j.limits _ _ _
     c.row_at-row.result c.row_at-row.ensures c.loop-j.invariant
-    c.demand_value-first.ensures.1 c.demand_value-second.ensures.1 c.demand_value-third.ensures.1 c.demand_value-third.ensures.0
-
-pub demand_value-first-requires : goal.demand_value-first-requires
-demand_value-first-requires c = c.loop-j.invariant.bounds
-
-pub demand_value-second-requires : goal.demand_value-second-requires
-demand_value-second-requires c = c.demand_value-first.ensures.0
-
-pub demand_value-third-requires : goal.demand_value-third-requires
-demand_value-third-requires c = c.demand_value-second.ensures.0
+    c.demand_value-first.ensures.1 c.demand_value-second.ensures.1 c.demand_value-limits.ensures.1 c.demand_value-limits.ensures.0
 
 pub returns : goal.returns
-returns c = limiting_done _ _ _ _ (omega arith) _ c.loop-j.invariant
+returns c = limiting_done _ _ _ c.loop-j.j (omega arith) _ c.loop-j.invariant

@@ -1,10 +1,6 @@
 -- Within the limits so far, and with values for the variables of the rows from j on (`Limiting`).
-use Prim.Native.Nat.{◌-◌}
 use Rattle.formed_plans.proofs.Within.{Limiting}
 use Rattle.formed_plans.proofs.limits_of.Given as goal
 
 abbrev pub invariant-loop-j : goal.invariant-loop-j
 invariant-loop-j l = Limiting l.program l.from l.to l.j l.limits
-
-abbrev pub decreases-loop-j : goal.decreases-loop-j
-decreases-loop-j l = l.to - l.j

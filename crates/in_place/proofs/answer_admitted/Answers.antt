@@ -6,7 +6,7 @@ use Rattle.state.proofs.Live.{sound_plans_rise}
 use Rattle.in_place.specs.Given.{given_rows}
 use Rattle.in_place.proofs.Outcomes.{refuses, admitted_words}
 use Rattle.in_place.proofs.Answered.{answer_6, answer_7, answer_yes, answer_no}
-use Rattle.in_place.proofs.Waiting.{waiting_live, waiting_succeed, waiting_fail}
+use Rattle.in_place.proofs.Waiting.{waiting_found, waiting_live, waiting_succeed, waiting_fail}
 use Rattle.in_place.proofs.Stays.{call_stays}
 use borrow.Author.Rules.{rules}
 use Rattle.in_place.proofs.answer_admitted.Goals as goal
@@ -39,30 +39,35 @@ returns-then-n-gt1 c =
       stays = all.1.1;
     }
 
-pub find_plan-k-requires : goal.find_plan-k-requires
-find_plan-k-requires c =
+pub find_plan-requires : goal.find_plan-requires
+find_plan-requires c =
     let a = c.args in
     let h = admitted_words a.program.now a.words.now a.scalars c.requires.sized c.requires.well in
     (h.long, h.few_plans, sound_plans_rise a.words.now a.scalars h.sound)
+
+pub unwrap-k-requires : goal.unwrap-k-requires
+unwrap-k-requires c =
+    let a = c.args in
+    waiting_found a.program.now a.words.now a.scalars c.requires.sized c.requires.well c.if-id-eq0.false _ c.find_plan.ensures
 
 pub succeed-requires : goal.succeed-requires
 succeed-requires c =
     let a = c.args in
     waiting_live a.program.now a.words.now a.scalars c.requires.sized c.requires.well c.if-id-eq0.false
-    c.find_plan-k.result c.find_plan-k.ensures c.with_waiting-idle.result c.with_waiting-idle.ensures
+    c.find_plan.result c.find_plan.ensures c.unwrap-k.result c.unwrap-k.ensures c.with_waiting-idle.result c.with_waiting-idle.ensures
 
 pub fail-requires : goal.fail-requires
 fail-requires c =
     let a = c.args in
     waiting_live a.program.now a.words.now a.scalars c.requires.sized c.requires.well c.if-id-eq0.false
-    c.find_plan-k.result c.find_plan-k.ensures c.with_waiting-idle.result c.with_waiting-idle.ensures
+    c.find_plan.result c.find_plan.ensures c.unwrap-k.result c.unwrap-k.ensures c.with_waiting-idle.result c.with_waiting-idle.ensures
 
 pub returns-then-n-eq1 : goal.returns-then-n-eq1
 unfolding work
 returns-then-n-eq1 c =
     let a = c.args in
     let left = waiting_succeed a.program.now a.words.now a.scalars c.requires.sized c.requires.well c.if-id-eq0.false
-    c.find_plan-k.result c.find_plan-k.ensures c.with_waiting-idle.result c.with_waiting-idle.ensures in
+    c.find_plan.result c.find_plan.ensures c.unwrap-k.result c.unwrap-k.ensures c.with_waiting-idle.result c.with_waiting-idle.ensures in
     let all =
     call_stays a.program.now a.words.now a.scalars c.requires _ c.succeed.auto.words
     (to_answer (given_rows a.program.now) a.n) refl refl (
@@ -80,7 +85,7 @@ unfolding work
 returns-else-n-eq1 c =
     let a = c.args in
     let left = waiting_fail a.program.now a.words.now a.scalars c.requires.sized c.requires.well c.if-id-eq0.false
-    c.find_plan-k.result c.find_plan-k.ensures c.with_waiting-idle.result c.with_waiting-idle.ensures in
+    c.find_plan.result c.find_plan.ensures c.unwrap-k.result c.unwrap-k.ensures c.with_waiting-idle.result c.with_waiting-idle.ensures in
     let all =
     call_stays a.program.now a.words.now a.scalars c.requires _ c.fail.auto.words
     (to_answer (given_rows a.program.now) a.n) refl refl (

@@ -1,6 +1,7 @@
 -- Each way of sense, with what is well formed kept.
 use mathlib.Core.Path.{refl, sym, ap, ◌∙◌}
 use native.Mathlib.Omega.{arith}
+use Rattle.model.specs.Log.{refused}
 use Rattle.model.specs.Claims.{to_sense, work}
 use Rattle.state.specs.View.{config_of}
 use Rattle.in_place.specs.Given.{given_rows, readings_of}
@@ -86,26 +87,25 @@ returns-then-not-rows_in_range c =
       stays = all.1.1;
     }
 
-pub sense_or_restore-w-requires : goal.sense_or_restore-w-requires
-sense_or_restore-w-requires c =
+pub sense_or_restore-requires : goal.sense_or_restore-requires
+sense_or_restore-requires c =
     let a = c.args in
     let many = c.if-rows-gt256.false in
     (admitted_ready a.program.now a.words.now a.scalars c.requires.sized c.requires.well, omega arith)
 
-pub returns-then-w-ne0 : goal.returns-then-w-ne0
+pub returns-in-Err : goal.returns-in-Err
 unfolding work
-returns-then-w-ne0 c =
+returns-in-Err c =
     let a = c.args in
-    let w = c.sense_or_restore-w in
+    let w = c.sense_or_restore in
     let many = c.if-rows-gt256.false in
     let right = sym c.rows_in_range.ensures ∙ c.if-not-rows_in_range.false in
-    let no = c.if-w-ne0.true in
     let all =
     call_stays a.program.now a.words.now a.scalars c.requires _ w.auto.words
     (to_sense (given_rows a.program.now) (readings_of a.rows.now)) refl refl
-    (refuses a.words.now _ a.scalars _ _ _ (w.ensures.untouched no) c.refuse-then-w-ne0.ensures
+    (refuses a.words.now _ a.scalars _ _ _ c.in-Err.ensures.untouched c.refuse-in-Err.ensures
     (sense_barred a.program.now (config_of a.words.now a.scalars) a.rows.now c.requires.well
-    c.if-scalars-ne0.false c.if-scalars-ne0-2.false (omega arith) c.if-rows-ne0.false right _ _ _ no w.ensures.senses_rows)) in record {
+    c.if-scalars-ne0.false c.if-scalars-ne0-2.false (omega arith) c.if-rows-ne0.false right _ c.in-Err.refusal c.in-Err.ensures.senses_rows ∙ ap refused (sym c.number.ensures))) in record {
       result_after = all.0;
       untouched = all.1.0;
       stays = all.1.1;
@@ -114,27 +114,25 @@ returns-then-w-ne0 c =
 pub overflow_sub-made : goal.overflow_sub-made
 overflow_sub-made c =
     let a = c.args in
-    let w = c.sense_or_restore-w in
     let many = c.if-rows-gt256.false in
     let right = sym c.rows_in_range.ensures ∙ c.if-not-rows_in_range.false in
     let h = sense_rises a.program.now (config_of a.words.now a.scalars) a.rows.now c.requires.well
-    c.if-scalars-ne0.false c.if-scalars-ne0-2.false (omega arith) c.if-rows-ne0.false right _ _ _ c.if-w-ne0.false w.ensures.senses_rows in
+    c.if-scalars-ne0.false c.if-scalars-ne0-2.false (omega arith) c.if-rows-ne0.false right _ _ c.in-Ok.ensures.senses_rows in
     omega arith
 
-pub returns : goal.returns
+pub returns-in-Ok : goal.returns-in-Ok
 unfolding work
-returns c =
+returns-in-Ok c =
     let a = c.args in
-    let w = c.sense_or_restore-w in
+    let w = c.sense_or_restore in
     let many = c.if-rows-gt256.false in
     let right = sym c.rows_in_range.ensures ∙ c.if-not-rows_in_range.false in
-    let taken = c.if-w-ne0.false in
     let left = ap (config_of w.new.words) c.with_phase.ensures in
     let all =
     call_stays a.program.now a.words.now a.scalars c.requires _ w.auto.words
     (to_sense (given_rows a.program.now) (readings_of a.rows.now)) refl refl (
       sense_done a.program.now (config_of a.words.now a.scalars) a.rows.now c.requires.well
-          c.if-scalars-ne0.false c.if-scalars-ne0-2.false (omega arith) c.if-rows-ne0.false right _ _ _ _ taken w.ensures.senses_rows refl _ left,
+          c.if-scalars-ne0.false c.if-scalars-ne0-2.false (omega arith) c.if-rows-ne0.false right _ _ _ c.in-Ok.ensures.senses_rows refl _ left,
       λ z. absurd (z refl),
     ) in record {
       result_after = all.0;

@@ -1,6 +1,7 @@
+-- A plan with other justifications is not equal, and one after the other is compared with the match.
 use borrow.Author.Rules.{rules}
 use borrow.Author.Tests.{not-false}
-use mathlib.Core.Path.{◌≡◌, refl, sym, ap, ◌∙◌}
+use mathlib.Core.Path.{◌≡◌, sym, ap, ◌∙◌}
 use native.Mathlib.Omega.{arith}
 use lib.ListN.{length}
 use Rattle.lists.specs.Lists.{same}
@@ -16,12 +17,6 @@ pub returns-then-not-rule : goal.returns-then-not-rule
 unfolding counts
 returns-then-not-rule c = rw (← c.requires.0.object_is, c.if-not-rule.true)
 
-pub loop-k-init : goal.loop-k-init
-loop-k-init c = (omega arith, refl)
-
-pub words_agree-requires : goal.words_agree-requires
-words_agree-requires c = let p = c.requires.1 in let a = p.plans in (p.long, omega arith)
-
 -- plan k has other justifications
 pub loop-k-preserved-then-not-words_agree : goal.loop-k-preserved-then-not-words_agree
 unfolding justifications_of
@@ -32,7 +27,7 @@ loop-k-preserved-then-not-words_agree c =
     let four : length c.rising_set-l.result.ids ≡ 4 = search rules in
     let q : Plan = plan_at c.args.words.now c.loop-k.k in
     let other = not_same c.rising_set-l.result q.justifications four (omega (arith, e.few)) e.padded (sym c.words_agree.ensures ∙ c.if-not-words_agree.true) in
-    (omega arith, c.loop-k.invariant.1 ∙ some_next _ _ _ _ c.loop-k-test.true (other_justified (rows_of c.args.program.now) c.args.rule.set c.args.rule.number (found_of c.args.f) q (ap (same q.justifications) (sym e.is) ∙ other)))
+    c.loop-k.invariant ∙ some_next _ _ _ _ c.loop-k-test.true (other_justified (rows_of c.args.program.now) c.args.rule.set c.args.rule.number (found_of c.args.f) q (ap (same q.justifications) (sym e.is) ∙ other))
 
 pub equal_plan-requires : goal.equal_plan-requires
 unfolding justifications_of
@@ -46,24 +41,12 @@ equal_plan-requires c =
 pub returns-then-equal_plan : goal.returns-then-equal_plan
 unfolding counts
 returns-then-equal_plan c =
-    sym (rw (← c.requires.0.object_is, not-false c.args.rule.object c.if-not-rule.false, c.loop-k.invariant.1 ∙ some_here _ _ _ _ c.loop-k-test.true (sym c.equal_plan.ensures ∙ c.if-equal_plan.true)))
+    sym (rw (← c.requires.0.object_is, not-false c.args.rule.object c.if-not-rule.false, c.loop-k.invariant ∙ some_here _ _ _ _ c.loop-k-test.true (sym c.equal_plan.ensures ∙ c.if-equal_plan.true)))
 
 pub loop-k-preserved : goal.loop-k-preserved
-loop-k-preserved c = (omega arith, c.loop-k.invariant.1 ∙ some_next _ _ _ _ c.loop-k-test.true (sym c.equal_plan.ensures ∙ c.if-equal_plan.false))
+loop-k-preserved c = c.loop-k.invariant ∙ some_next _ _ _ _ c.loop-k-test.true (sym c.equal_plan.ensures ∙ c.if-equal_plan.false)
 
 pub returns : goal.returns
 unfolding counts
 returns c =
-    sym (rw (← c.requires.0.object_is, not-false c.args.rule.object c.if-not-rule.false, c.loop-k.invariant.1 ∙ some_end _ _ _ _ c.loop-k-test.false))
-
-pub overflow_add-k : goal.overflow_add-k
-overflow_add-k c = omega arith
-
-pub loop-k-smaller-then-not-words_agree : goal.loop-k-smaller-then-not-words_agree
-loop-k-smaller-then-not-words_agree c = omega arith
-
-pub overflow_add-k-in-loop-k : goal.overflow_add-k-in-loop-k
-overflow_add-k-in-loop-k c = omega arith
-
-pub loop-k-smaller : goal.loop-k-smaller
-loop-k-smaller c = omega arith
+    sym (rw (← c.requires.0.object_is, not-false c.args.rule.object c.if-not-rule.false, c.loop-k.invariant ∙ some_end _ _ _ _ c.loop-k-test.false))

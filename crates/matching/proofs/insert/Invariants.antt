@@ -1,11 +1,7 @@
 -- The loop's invariant: the first places are done, and what is carried goes into the rest, which is as it was.
-use Prim.Native.Nat.{◌-◌}
 use lib.ListN.{take}
 use Rattle.matching.proofs.Plans.{Inserting}
 use Rattle.matching.proofs.insert.Given as goal
 
 abbrev pub invariant-loop-j : goal.invariant-loop-j
 invariant-loop-j l = Inserting l.n (take l.count l.initial.ids) l.count l.ids l.carried l.j
-
-abbrev pub decreases-loop-j : goal.decreases-loop-j
-decreases-loop-j l = l.count - l.j

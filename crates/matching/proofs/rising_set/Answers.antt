@@ -1,3 +1,4 @@
+-- From the last id to the first.
 use borrow.Author.Rules.{rules}
 use mathlib.Core.Path.{◌≡◌}
 use Prim.Native.Nat.{◌≤◌}
@@ -9,20 +10,8 @@ use Rattle.matching.proofs.rising_set.Goals as goal
 pub loop-j-init : goal.loop-j-init
 loop-j-init c = let l : length c.args.matched ≡ 4 = search rules in let h : c.args.count ≤ length c.args.matched = let h = c.requires in omega arith in sorted_none c.args.matched c.args.count h
 
-pub overflow_sub-j : goal.overflow_sub-j
-overflow_sub-j c = omega arith
-
-pub offset_bounds-matched-j : goal.offset_bounds-matched-j
-offset_bounds-matched-j c = omega arith
-
-pub bounds-matched-j : goal.bounds-matched-j
-bounds-matched-j c = let i = c.loop-j.invariant.within in let l : length c.args.matched ≡ 4 = search rules in let h = c.requires in omega arith
-
 pub insert-l-requires : goal.insert-l-requires
 insert-l-requires c = let i = c.loop-j.invariant in let a = i.few in (let h = c.requires in omega arith, sorted_rises i, i.padded)
-
-pub loop-j-smaller : goal.loop-j-smaller
-loop-j-smaller c = omega arith
 
 pub loop-j-preserved : goal.loop-j-preserved
 loop-j-preserved c =

@@ -4,6 +4,3 @@ use Rattle.matching.proofs.rising_set.Given as goal
 
 abbrev pub invariant-loop-j : goal.invariant-loop-j
 invariant-loop-j l = Sorted l.matched l.count l.l l.j
-
-abbrev pub decreases-loop-j : goal.decreases-loop-j
-decreases-loop-j l = l.j

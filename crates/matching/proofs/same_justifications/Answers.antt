@@ -1,5 +1,6 @@
+-- Place by place, where the lists are as long.
 use borrow.Author.Rules.{rules}
-use mathlib.Core.Path.{◌≡◌, refl, sym, ◌∙◌}
+use mathlib.Core.Path.{◌≡◌, sym, ◌∙◌}
 use native.Mathlib.Omega.{arith}
 use lib.ListN.{length, take}
 use lib.Seq.{get_or-take, length-take-le}
@@ -14,31 +15,13 @@ returns-then-n-count c =
     let n = c.justification_count-n.ensures in
     same_longer _ _ (λ (e : length (plan_at c.args.words.now c.args.k).justifications ≡ length (take c.args.l.count c.args.l.ids)). c.if-n-count.true (n ∙ e ∙ l))
 
-pub loop-j-init : goal.loop-j-init
-loop-j-init c = (omega arith, refl)
-
-pub plan_justification-requires : goal.plan_justification-requires
-plan_justification-requires c = let p = c.requires in (p.0, p.1, omega arith)
-
-pub offset_bounds-ids-j : goal.offset_bounds-ids-j
-offset_bounds-ids-j c = omega arith
-
-pub bounds-ids-j : goal.bounds-ids-j
-bounds-ids-j c = let l : length c.args.l.ids ≡ 4 = search rules in let p = c.requires in omega arith
-
 pub returns-then-plan_justification-ids : goal.returns-then-plan_justification-ids
 returns-then-plan_justification-ids c =
     let n = c.justification_count-n.ensures in
     let four : length c.args.l.ids ≡ 4 = search rules in
     let l : length (take c.args.l.count c.args.l.ids) ≡ c.args.l.count = length-take-le c.args.l.count c.args.l.ids (omega (arith, c.requires.2)) in
     let g = get_or-take c.args.l.count c.args.l.ids c.loop-j.j 0 c.loop-j-test.true in
-    sym (c.loop-j.invariant.1 ∙ same_not (plan_at c.args.words.now c.args.k).justifications (take c.args.l.count c.args.l.ids) c.loop-j.j (omega (arith, c.if-n-count.false)) (omega arith) (λ e. c.if-plan_justification-ids.true (c.plan_justification.ensures ∙ e ∙ g)))
-
-pub overflow_add-j : goal.overflow_add-j
-overflow_add-j c = omega arith
-
-pub loop-j-smaller : goal.loop-j-smaller
-loop-j-smaller c = omega arith
+    sym (c.loop-j.invariant ∙ same_not (plan_at c.args.words.now c.args.k).justifications (take c.args.l.count c.args.l.ids) c.loop-j.j (omega (arith, c.if-n-count.false)) (omega arith) (λ e. c.if-plan_justification-ids.true (c.plan_justification.ensures ∙ e ∙ g)))
 
 pub loop-j-preserved : goal.loop-j-preserved
 loop-j-preserved c =
@@ -46,11 +29,11 @@ loop-j-preserved c =
     let four : length c.args.l.ids ≡ 4 = search rules in
     let l : length (take c.args.l.count c.args.l.ids) ≡ c.args.l.count = length-take-le c.args.l.count c.args.l.ids (omega (arith, c.requires.2)) in
     let g = get_or-take c.args.l.count c.args.l.ids c.loop-j.j 0 c.loop-j-test.true in
-    (omega arith, c.loop-j.invariant.1 ∙ same_next (plan_at c.args.words.now c.args.k).justifications (take c.args.l.count c.args.l.ids) c.loop-j.j (omega (arith, c.if-n-count.false)) (omega arith) (sym c.plan_justification.ensures ∙ c.if-plan_justification-ids.false ∙ sym g))
+    c.loop-j.invariant ∙ same_next (plan_at c.args.words.now c.args.k).justifications (take c.args.l.count c.args.l.ids) c.loop-j.j (omega (arith, c.if-n-count.false)) (omega arith) (sym c.plan_justification.ensures ∙ c.if-plan_justification-ids.false ∙ sym g)
 
 pub returns : goal.returns
 returns c =
     let n = c.justification_count-n.ensures in
     let four : length c.args.l.ids ≡ 4 = search rules in
     let l : length (take c.args.l.count c.args.l.ids) ≡ c.args.l.count = length-take-le c.args.l.count c.args.l.ids (omega (arith, c.requires.2)) in
-    same_end (plan_at c.args.words.now c.args.k).justifications (take c.args.l.count c.args.l.ids) c.loop-j.j (omega (arith, c.if-n-count.false)) (omega arith) ∙ sym c.loop-j.invariant.1
+    same_end (plan_at c.args.words.now c.args.k).justifications (take c.args.l.count c.args.l.ids) c.loop-j.j (omega (arith, c.if-n-count.false)) (omega arith) ∙ sym c.loop-j.invariant

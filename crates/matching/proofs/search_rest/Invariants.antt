@@ -12,12 +12,12 @@ use Rattle.matching.specs.Rules.{counted}
 use Rattle.matching.specs.Sets.{Remembered}
 use Rattle.matching.proofs.search_rest.Given as goal
 
-abbrev pub invariant-loop-c : goal.invariant-loop-c
-invariant-loop-c l =
+abbrev pub invariant-loop-next : goal.invariant-loop-next
+invariant-loop-next l =
     Sized l.values l.matched × (l.values ≡ l.before)
     × (first_of (bind (answers l.words l.s (row_at l.program l.k) (found_in l.before [] 0) l.from) (counted l.program l.words l.s l.rule (l.k + 1)))
     ≡ first_of (bind (answers l.words l.s l.r (found_in l.before [] 0) l.c) (counted l.program l.words l.s l.rule (l.k + 1)) ++ []))
     × Remembered l.program l.words l.s l.rule l.known × (length l.hints ≡ 16)
 
-abbrev pub decreases-loop-c : goal.decreases-loop-c
-decreases-loop-c l = width l.s l.r - l.c
+abbrev pub decreases-loop-next : goal.decreases-loop-next
+decreases-loop-next l = width l.s l.r - l.c

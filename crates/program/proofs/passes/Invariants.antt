@@ -1,13 +1,9 @@
 -- Before row k the words are well formed if the rows from k on are in range and pass: `Checking`.
 use mathlib.Core.Path.{◌≡◌}
-use Prim.Native.Nat.{◌-◌, ◌/◌}
 use lib.ListN.{length}
 use Rattle.rows.specs.Scanning.{whole as scanned}
 use Rattle.program.proofs.Checks.{Checking}
 use Rattle.program.proofs.passes.Given as goal
 
 abbrev pub invariant-loop-k : goal.invariant-loop-k
-invariant-loop-k l = Checking l.program (scanned l.s l.ceilings) l.k × (length l.ceilings ≡ 256)
-
-abbrev pub decreases-loop-k : goal.decreases-loop-k
-decreases-loop-k l = length l.program / 8 - l.k
+invariant-loop-k l = Checking l.program (scanned l.scan l.ceilings) l.k × (length l.ceilings ≡ 256)

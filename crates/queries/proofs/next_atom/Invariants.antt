@@ -1,14 +1,10 @@
--- The loop's invariant is that of `next_candidate`; the candidates of the row are the atoms.
-use mathlib.Core.Path.{◌≡◌}
-use Prim.Native.Nat.{◌-◌, ◌≤◌}
-use Rattle.queries.specs.View.{found_in, Sized, Kept}
-use Rattle.queries.specs.Answers.{hits}
+-- The loop's invariant: none of the candidates before c fits.
+use Prim.Native.Nat.{◌-◌}
+use Rattle.queries.proofs.Seeking.{Seeking}
 use Rattle.queries.proofs.next_atom.Given as goal
 
 abbrev pub invariant-loop-c : goal.invariant-loop-c
-invariant-loop-c l =
-    Sized l.values l.matched × (l.values ≡ l.before) × Kept l.count l.initial.matched l.matched × (l.from ≤ l.c)
-    × (hits l.words l.s l.r (found_in l.before l.initial.matched l.count) l.from ≡ hits l.words l.s l.r (found_in l.before l.initial.matched l.count) l.c)
+invariant-loop-c l = Seeking l.words l.fn.s l.r l.before l.initial.matched l.count l.fn.from l.values l.matched l.c
 
 abbrev pub decreases-loop-c : goal.decreases-loop-c
-decreases-loop-c l = l.s.atoms - l.c
+decreases-loop-c l = l.n - l.c

@@ -1,56 +1,36 @@
 -- No other candidate fits: what is behind the one is nothing.
-use mathlib.Core.Path.{◌≡◌, refl, sym, ap, ◌∙◌}
 use native.Mathlib.Omega.{arith}
-use lib.ListN.{length}
-use Rattle.model.specs.Matching.{Found}
 use Rattle.queries.specs.View.{found_in}
-use Rattle.queries.specs.Answers.{tried}
-use Rattle.queries.proofs.Halves.{hits_past, alone_fits, alone_fails}
+use Rattle.queries.proofs.Halves.{alone_none, alone_past, alone_fits, alone_fails}
 use Rattle.queries.proofs.next_known.Goals as goal
 
-pub returns-then-c-from : goal.returns-then-c-from
-returns-then-c-from c =
-    let p = c.requires in
+pub returns-in_err-c-clause-is : goal.returns-in_err-c-clause-is
+returns-in_err-c-clause-is c =
     let a = c.args in
-    let f = found_in a.before a.matched.now a.count in
+    rw c.from_residual.ensures (record { is = alone_none a.words.now a.s a.r (found_in a.before a.matched.now a.count) _ c.requires.4 c.in_err-c.ensures a.from; further = tt })
+
+pub returns-then-c-from-clause-is : goal.returns-then-c-from-clause-is
+returns-then-c-from-clause-is c =
+    let a = c.args in
+    record { is = alone_past a.words.now a.s a.r (found_in a.before a.matched.now a.count) _ _ c.requires.4 c.in_ok-c.ensures a.from c.if-c-from.true; further = tt }
+
+pub returns-then-take-clause-is : goal.returns-then-take-clause-is
+returns-then-take-clause-is c =
+    let a = c.args in
+    let h = c.if-c-from.false in
+    let low = c.in_ok-c.ensures.inside in
     record {
-      sized = p.2;
-      is = record { is = hits_past a.words.now a.s a.r f a.i _ p.4 c.behind-c.ensures _ c.if-c-from.true; further = λ z. absurd (z refl) };
-      back = λ _. p.3;
-      kept = refl;
+      is = alone_fits a.words.now a.s a.r (found_in a.before a.matched.now a.count) _ _ c.requires.4 c.in_ok-c.ensures a.from h c.candidate_at-x.result c.candidate_at-x.ensures c.take.result _
+          (rw c.requires.3 at c.take.ensures.is) c.if-take.true;
+      further = (omega arith, omega arith);
     }
 
-pub returns-then-take : goal.returns-then-take
-returns-then-take c =
-    let p = c.requires in
+pub returns-clause-is : goal.returns-clause-is
+returns-clause-is c =
     let a = c.args in
-    let f = found_in a.before a.matched.now a.count in
     let h = c.if-c-from.false in
-    let low = c.behind-c.ensures.inside in
-    let same-found : ◌≡◌ {A = Found} (found_in a.values.now a.matched.now a.count) f = rw p.3 in record {
-      sized = c.take.ensures.sized;
-      is = record {
-        is = alone_fits a.words.now a.s a.r f a.i _ p.4 c.behind-c.ensures _ h c.candidate_at-x.result c.candidate_at-x.ensures c.take.result _
-            (c.take.ensures.is ∙ ap (tried a.r c.candidate_at-x.result) same-found) c.if-take.true;
-        further = λ _. (omega arith, omega arith);
-      };
-      back = λ z. absurd (omega (arith, z));
-      kept = c.take.ensures.kept;
-    }
-
-pub returns : goal.returns
-returns c =
-    let p = c.requires in
-    let a = c.args in
-    let f = found_in a.before a.matched.now a.count in
-    let h = c.if-c-from.false in
-    let same-found : ◌≡◌ {A = Found} (found_in a.values.now a.matched.now a.count) f = rw p.3 in record {
-      sized = (sym (ap length p.3) ∙ p.2.0, c.take.ensures.sized.1);
-      is = record {
-        is = alone_fails a.words.now a.s a.r f a.i _ p.4 c.behind-c.ensures _ h c.candidate_at-x.result c.candidate_at-x.ensures c.take.result _
-            (c.take.ensures.is ∙ ap (tried a.r c.candidate_at-x.result) same-found) c.if-take.false;
-        further = λ z. absurd (z refl);
-      };
-      back = λ _. refl;
-      kept = c.take.ensures.kept;
+    record {
+      is = alone_fails a.words.now a.s a.r (found_in a.before a.matched.now a.count) _ _ c.requires.4 c.in_ok-c.ensures a.from h c.candidate_at-x.result c.candidate_at-x.ensures c.take.result _
+          (rw c.requires.3 at c.take.ensures.is) c.if-take.false;
+      further = tt;
     }

@@ -1,14 +1,6 @@
--- The loop's invariant is that of `next_candidate`; the candidates of the row are the plans.
-use mathlib.Core.Path.{◌≡◌}
-use Prim.Native.Nat.{◌-◌, ◌≤◌}
-use Rattle.queries.specs.View.{found_in, Sized, Kept}
-use Rattle.queries.specs.Answers.{hits}
+-- The loop's invariant: none of the plans before c fits.
+use Rattle.queries.proofs.Seeking.{Seeking}
 use Rattle.queries.proofs.next_plan.Given as goal
 
 abbrev pub invariant-loop-c : goal.invariant-loop-c
-invariant-loop-c l =
-    Sized l.values l.matched × (l.values ≡ l.before) × Kept l.count l.initial.matched l.matched × (l.from ≤ l.c)
-    × (hits l.words l.s l.r (found_in l.before l.initial.matched l.count) l.from ≡ hits l.words l.s l.r (found_in l.before l.initial.matched l.count) l.c)
-
-abbrev pub decreases-loop-c : goal.decreases-loop-c
-decreases-loop-c l = l.s.plans - l.c
+invariant-loop-c l = Seeking l.words l.fn.s l.r l.before l.initial.matched l.count l.from l.values l.matched l.c

@@ -1,36 +1,43 @@
 -- A constant and a variable with a value meet one number each.
-use borrow.Author.Tests.{eqb-false, ne_eqb, le-leb, lt-leb, not-true}
-use mathlib.Core.Path.{◌≡◌, sym, ◌∙◌}
-use mathlib.Core.Bool.{false, false≢true}
-use Prim.Native.Nat.{◌-◌}
+use borrow.Author.Tests.{eqb-false, ne_eqb, le-leb, lt-leb}
+use mathlib.Core.Path.{◌≡◌, refl, sym, ◌∙◌}
+use mathlib.Core.Bool.{Bool, true, false, not}
+use Prim.Native.Nat.{ℕ, ◌-◌}
+use Rattle.std.specs.Bool.{then_some}
 use native.Mathlib.Omega.{arith}
 use lib.Dec.{eqb}
 use lib.ListN.{get_or}
 use Rattle.lists.proofs.Tables.{get_within}
 use Rattle.model.specs.Configuration.{value_of}
 use Rattle.model.specs.Matching.{meet}
+use Rattle.queries.specs.View.{Wants}
 use Rattle.queries.proofs.wanted_by.Goals as goal
 
-pub returns-then-x-ge9 : goal.returns-then-x-ge9
+pub returns-in_default-clause-wants : goal.returns-in_default-clause-wants
 unfolding meet
-returns-then-x-ge9 c =
+returns-in_default-clause-wants c =
     let x = c.args.x in
-    let z : eqb x 0 ≡ false = ne_eqb x 0 (λ (e : x ≡ 0). let h = c.if-x-ge9.true in omega arith) in
-    record { misses = λ t n h v g. rw (z, le-leb _ _ c.if-x-ge9.true, ne_eqb (x - 9) n (λ e. h (sym e))) }
+    let z : eqb x 0 ≡ false = ne_eqb x 0 (λ (e : x ≡ 0). let h = c.in_default in omega arith) in
+    record { misses = λ n h v g. rw (z, le-leb 9 x (let h = c.in_default in omega arith), ne_eqb (x - 9) n (λ e. h (sym e))) }
 
-pub returns-then-x-gt0 : goal.returns-then-x-gt0
+pub returns-in-1-to-8-clause-wants : goal.returns-in-1-to-8-clause-wants
 unfolding meet
-returns-then-x-gt0 c =
-    let x = c.args.x in
-    let l = c.args.values.now in
-    let v = get_within l (8 - x) 65536 0 (omega (arith, c.requires)) in
-    let z : eqb x 0 ≡ false = ne_eqb x 0 (λ (e : x ≡ 0). let h = c.if-x-gt0.true in omega arith) in
-    record {
-      misses = λ t n h u g.
-          let k : eqb (get_or l (8 - x) 0) 65536 ≡ false = not-true _ t in
-          let o : value_of u x ≡ value_of l x = g x (λ e. eqb-false _ _ k (sym v ∙ e)) in
-          rw (z, lt-leb _ _ c.if-x-ge9.false, o, v, k, ne_eqb (get_or l (8 - x) 0) n (λ e. h (sym e)));
-    }
+returns-in-1-to-8-clause-wants c = rw c.then_some.ensures (at (eqb v 65536) refl)
+  where
+    x : ℕ
+    x = c.args.x
 
-pub returns : goal.returns
-returns c = record { misses = λ t. absurd (false≢true t) }
+    v : ℕ
+    v = get_or c.args.values.now (8 - x) 0
+
+    at : (t : Bool) → eqb v 65536 ≡ t → Wants (then_some (not t) v) x c.args.values.now
+    at true k = record { misses = tt }
+    at false k =
+        let l = c.args.values.now in
+        let is = get_within l (8 - x) 65536 0 (omega (arith, c.requires)) in
+        let z : eqb x 0 ≡ false = ne_eqb x 0 (λ (e : x ≡ 0). let h = c.in-1-to-8 in omega arith) in
+        record {
+          misses = λ n h u g.
+              let o : value_of u x ≡ value_of l x = g x (λ e. eqb-false _ _ k (sym is ∙ e)) in
+              rw (z, lt-leb 9 x (let h = c.in-1-to-8 in omega arith), o, is, k, ne_eqb v n (λ e. h (sym e)));
+        }

@@ -1,13 +1,9 @@
--- A blank line has as many spaces as bytes.
-use Rattle.script.proofs.Words.{empty_passed, remark_passed, blank_passed}
-use borrow.Author.Rules.{rules}
+use mathlib.Core.Path.{sym, ◌∙◌}
+use Rattle.script.proofs.Words.{remark, blank}
 use Rattle.script.proofs.is_passed_over.Goals as goal
 
-pub returns-then-line-eq0 : goal.returns-then-line-eq0
-returns-then-line-eq0 c = search (rules, empty_passed)
+pub returns-then-starts_with : goal.returns-then-starts_with
+returns-then-starts_with c = c.if-starts_with.true ∙ remark _ (sym c.starts_with.ensures.value ∙ c.if-starts_with.true)
 
-pub returns-then-line-eq35 : goal.returns-then-line-eq35
-returns-then-line-eq35 c = search (rules, remark_passed)
-
-pub returns : goal.returns
-returns c = search (rules, blank_passed)
+pub returns-else-starts_with : goal.returns-else-starts_with
+returns-else-starts_with c = c.is_blank.ensures ∙ blank _ (sym c.starts_with.ensures.value ∙ c.if-starts_with.false)

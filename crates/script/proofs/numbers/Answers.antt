@@ -15,7 +15,7 @@ pub bounds-out-k : goal.bounds-out-k
 bounds-out-k c = has_room c.loop-at.invariant c.loop-at-test.true
 
 pub loop-at-preserved : goal.loop-at-preserved
-loop-at-preserved c = passes c.loop-at.invariant c.loop-at-test.true c.word_end-end.ensures _ c.in-Value.ensures
+loop-at-preserved c = passes c.loop-at.invariant c.loop-at-test.true c.word_end-end.ensures _ c.in-Some.ensures
 
 pub returns : goal.returns
 returns c = record { within = search rules; read = ends c.loop-at.invariant c.loop-at-test.false }

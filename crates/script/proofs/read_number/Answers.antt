@@ -1,8 +1,6 @@
-use Prim.Native.Nat.{◌-◌, ◌≤◌}
 use native.Mathlib.Omega.{arith}
-use lib.ListN.{length}
-use Rattle.script.proofs.Digits.{Reading, none, zero_alone, zero_leads, begin, below, above, over, more, all_read}
 use borrow.Author.Rules.{rules}
+use Rattle.script.proofs.Digits.{none, zero_alone, zero_leads, begin, no_digit, over, more, all_read}
 use Rattle.script.proofs.read_number.Goals as goal
 
 pub returns-then-word-eq0 : goal.returns-then-word-eq0
@@ -11,35 +9,26 @@ returns-then-word-eq0 c = search (rules, none)
 pub returns-then-word-eq1 : goal.returns-then-word-eq1
 returns-then-word-eq1 c = search (rules, zero_alone)
 
-pub returns-then-word-eq48 : goal.returns-then-word-eq48
-returns-then-word-eq48 c = search (rules, zero_leads)
+pub returns-else-word-eq1 : goal.returns-else-word-eq1
+returns-else-word-eq1 c = search (rules, zero_leads)
 
-pub loop-i-init : goal.loop-i-init
-loop-i-init c = search (rules, begin)
+pub loop-d-init : goal.loop-d-init
+loop-d-init c = search (rules, begin)
 
-pub returns-then-d-lt48 : goal.returns-then-d-lt48
-returns-then-d-lt48 c = search (rules, below)
+pub returns-then-d : goal.returns-then-d
+returns-then-d c = no_digit c.loop-d.invariant c.loop-d-test.true c.if-d.true
 
-pub returns-then-d-gt57 : goal.returns-then-d-gt57
-returns-then-d-gt57 c = search (rules, above)
+pub returns-in_err-checked_mul : goal.returns-in_err-checked_mul
+returns-in_err-checked_mul c = rw c.from_residual.ensures (over c.loop-d.invariant c.loop-d-test.true c.if-d.false (let h = c.in_err-checked_mul.ensures in omega (arith, h)))
 
-pub overflow_mul-value : goal.overflow_mul-value
-overflow_mul-value c = omega arith
+pub returns-in_err-value : goal.returns-in_err-value
+returns-in_err-value c = rw c.from_residual-in_err-value.ensures (over c.loop-d.invariant c.loop-d-test.true c.if-d.false (let h = c.in_err-value.ensures in let k = c.in_ok-checked_mul.ensures in omega (arith, h, k)))
 
-pub overflow_cast-value : goal.overflow_cast-value
-overflow_cast-value c = omega arith
-
-pub overflow_add-value : goal.overflow_add-value
-overflow_add-value c = omega arith
-
-pub returns-then-value-gt4294967295 : goal.returns-then-value-gt4294967295
-returns-then-value-gt4294967295 c = search (rules, over)
-
-pub loop-i-preserved : goal.loop-i-preserved
-loop-i-preserved c = search (rules, more)
-
-pub overflow_cast-result : goal.overflow_cast-result
-overflow_cast-result c = omega arith
+pub loop-d-preserved : goal.loop-d-preserved
+loop-d-preserved c =
+    let h = c.in_ok-value.ensures in
+    let k = c.in_ok-checked_mul.ensures in
+    more c.loop-d.invariant c.loop-d-test.true c.if-d.false c.in_ok-value.value (omega (arith, h, k)) (omega (arith, h, k))
 
 pub returns : goal.returns
 returns c = search (rules, all_read)

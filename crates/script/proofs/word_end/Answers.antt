@@ -1,17 +1,9 @@
-use Prim.Native.Nat.{◌-◌}
-use lib.ListN.{length}
-use Rattle.script.proofs.Words.{Unspaced, unspaced, ends_at_space, ends_with_line, unspaced_on}
-use borrow.Author.Rules.{rules}
+use mathlib.Core.Path.{sym, ◌∙◌}
+use Rattle.script.proofs.Words.{word_stops, word_goes_on}
 use Rattle.script.proofs.word_end.Goals as goal
 
-pub loop-i-init : goal.loop-i-init
-loop-i-init c = search (rules, unspaced)
+pub returns-in-Some : goal.returns-in-Some
+returns-in-Some c = word_stops c.args.line.now c.args.from c.requires _ (sym c.first_space.ensures ∙ c.in-Some.is)
 
-pub returns-then-line-i-eq32 : goal.returns-then-line-i-eq32
-returns-then-line-i-eq32 c = search (rules, ends_at_space)
-
-pub loop-i-preserved : goal.loop-i-preserved
-loop-i-preserved c = search (rules, unspaced_on)
-
-pub returns : goal.returns
-returns c = search (rules, ends_with_line)
+pub returns-in-None : goal.returns-in-None
+returns-in-None c = word_goes_on c.args.line.now c.args.from c.requires (sym c.first_space.ensures ∙ c.in-None.is)

@@ -1,10 +1,6 @@
 -- The first k rows have been looked at (`Looked`).
-use Prim.Native.Nat.{◌-◌, ◌≤◌}
 use Rattle.sensing.proofs.Ceilings.{Looked}
 use Rattle.sensing.proofs.ceilings_of.Given as goal
 
 abbrev pub invariant-loop-k : goal.invariant-loop-k
-invariant-loop-k l = Looked l.program l.from l.to l.k × (l.k ≤ l.n)
-
-abbrev pub decreases-loop-k : goal.decreases-loop-k
-decreases-loop-k l = l.n - l.k
+invariant-loop-k l = Looked l.program l.from l.to l.k

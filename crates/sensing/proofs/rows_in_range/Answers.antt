@@ -1,20 +1,21 @@
-use mathlib.Core.Path.{sym, ap, ◌∙◌}
+-- The rows that are tested are the readings.
+use mathlib.Core.Path.{◌≡◌, refl}
+use mathlib.Core.Bool.{true, false}
 use Prim.Native.Nat.{◌/◌}
-use lib.ListN.{length}
 use native.Mathlib.Omega.{arith}
-use Rattle.lists.specs.Lists.{every}
+use lib.ListN.{length}
+use borrow.Author.Rules.{rules}
+use borrow.Author.Tests.{tests}
+use Rattle.std.proofs.lemmas.Iterator.{cases_from_all, YieldsList-from_range}
 use Rattle.model.specs.Calls.{in_range as is_in_range}
-use Rattle.sensing.proofs.Readings.{readings_all, every_step, every_fails, every_none}
+use Rattle.sensing.specs.Sensing.{reading_at}
+use Rattle.sensing.proofs.Readings.{every_reading}
 use Rattle.sensing.proofs.rows_in_range.Goals as goal
 
-pub loop-k-init : goal.loop-k-init
-loop-k-init c = let a = c.args in ap (every is_in_range) (readings_all a.rows.now (length a.rows.now / 4))
-
-pub returns-then-not-in_range : goal.returns-then-not-in_range
-returns-then-not-in_range c = sym (c.loop-k.invariant ∙ every_fails is_in_range c.args.rows.now c.loop-k.k _ (omega arith) (sym (c.in_range.ensures ∙ ap is_in_range c.reading_at.ensures) ∙ c.if-not-in_range.true))
-
-pub loop-k-preserved : goal.loop-k-preserved
-loop-k-preserved c = c.loop-k.invariant ∙ every_step is_in_range c.args.rows.now c.loop-k.k _ (omega arith) (sym (c.in_range.ensures ∙ ap is_in_range c.reading_at.ensures) ∙ c.if-not-in_range.false)
-
 pub returns : goal.returns
-returns c = sym (c.loop-k.invariant ∙ every_none is_in_range c.args.rows.now c.loop-k.k _ (omega arith))
+returns c =
+    let R = c.args.rows.now in
+    let n = length R / 4 in
+    every_reading is_in_range R n c.all.result
+    (cases_from_all _ _ _ (λ k. is_in_range (reading_at R k) ≡ true) (λ k. is_in_range (reading_at R k) ≡ false) c.all.ensures.ran (YieldsList-from_range 0 n n refl (omega arith))
+    (λ x q k. search (rules, tests)) (λ x q k. search (rules, tests)))

@@ -1,6 +1,5 @@
 -- What is left of sense is the rows from k on, after a log that the words show.
-use mathlib.Core.Path.{◌≡◌}
-use Prim.Native.Nat.{◌-◌, ◌*◌, ◌≤◌}
+use Prim.Native.Nat.{◌*◌, ◌/◌, ◌≤◌}
 use lib.ListN.{length}
 use Rattle.program.specs.Rows.{rows_of}
 use Rattle.state.specs.View.{config_of}
@@ -8,7 +7,4 @@ use Rattle.sensing.proofs.Readings.{SensingAt}
 use Rattle.sensing.proofs.sense_rows.Given as goal
 
 abbrev pub invariant-loop-k : goal.invariant-loop-k
-invariant-loop-k l = SensingAt (rows_of l.program) l.rows l.n (config_of l.initial.words l.initial.s) l.k l.words l.s l.gone × (l.gone ≤ l.k * 320) × (l.n ≤ 64) × (length l.initial.words ≡ 2432) × (l.k ≤ l.n)
-
-abbrev pub decreases-loop-k : goal.decreases-loop-k
-decreases-loop-k l = l.n - l.k
+invariant-loop-k l = SensingAt (rows_of l.program) l.rows (length l.rows / 4) (config_of l.initial.words l.initial.s) l.k l.words l.s l.gone × (l.gone ≤ l.k * 320)

@@ -17,15 +17,6 @@ removal_is C D g t id e l n = (l ∙ ap (λ (x : ℕ). removed x C) e, n ∙ ap 
 pub loop-k-init : goal.loop-k-init
 loop-k-init c = let r = c.requires in (withdrawing_first _ _ _ _ _ r, omega (arith, r.whole.few_atoms, r.whole.few_plans), r.whole.long)
 
-pub is_equal-requires : goal.is_equal-requires
-is_equal-requires c = let i = c.loop-k.invariant.0 in (i.ready.whole.long, omega (arith, i.ready.whole.few_atoms))
-
-pub atom_at-x-requires : goal.atom_at-x-requires
-atom_at-x-requires c = let i = c.loop-k.invariant.0 in (i.ready.whole.long, omega (arith, i.ready.whole.few_atoms))
-
-pub remove-r-requires : goal.remove-r-requires
-remove-r-requires c = let i = c.loop-k.invariant.0 in i.ready.whole
-
 pub overflow_add-gone : goal.overflow_add-gone
 overflow_add-gone c =
     let l = c.loop-k in
@@ -55,15 +46,6 @@ loop-k-preserved-then-is_equal c =
     let t = c.loop-k-test.true in
     (withdrawing_take a.p a.a a.b (config_of a.words.now a.scalars) (a.scalars.atoms + a.scalars.plans) l.words l.s r.new.words r.result.scalars l.gone l.k r.result.gone l.invariant.0 (omega arith) (sym c.is_equal.ensures ∙ c.if-is_equal.true) r.ensures.sound h.0 h.1, l.invariant.1, l.invariant.2)
 
-pub overflow_add-k : goal.overflow_add-k
-overflow_add-k c = let i = c.loop-k.invariant.0 in omega (arith, i.ready.whole.few_atoms, i.inside)
-
-pub pass_unequal-k-requires : goal.pass_unequal-k-requires
-pass_unequal-k-requires c = let i = c.loop-k.invariant.0 in let h = c.loop-k-test.true in (i.ready.whole.long, omega (arith, h), i.ready.whole.few_atoms)
-
-pub loop-k-smaller : goal.loop-k-smaller
-loop-k-smaller c = let h = c.loop-k-test.true in let e = c.pass_unequal-k.ensures in omega (arith, h, e.0, e.1)
-
 pub loop-k-preserved : goal.loop-k-preserved
 loop-k-preserved c =
     let l = c.loop-k in
@@ -71,9 +53,6 @@ loop-k-preserved c =
     let h = c.loop-k-test.true in
     let e = c.pass_unequal-k.ensures in
     (withdrawing_on _ _ _ _ _ l.words l.s l.gone l.k c.pass_unequal-k.result i.0 (omega (arith, h)) (sym c.is_equal.ensures ∙ c.if-is_equal.false) e.0 e.1 e.2, i.1, i.2)
-
-pub shape_of-words : goal.shape_of-words
-shape_of-words c = let i = c.loop-k.invariant in i.0.ready.whole.long ∙ sym i.2
 
 pub returns : goal.returns
 returns c = record {

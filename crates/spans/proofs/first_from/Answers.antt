@@ -1,25 +1,10 @@
-use mathlib.Core.Path.{sym, ◌∙◌}
-use Prim.Native.Nat.{ℕ, ◌+◌, ◌-◌, ◌/◌}
-use native.Mathlib.Omega.{arith}
-use Rattle.spans.proofs.Spans.{halved_all, halved_up, halved_down, halved_bound}
+use borrow.Author.Rules.{rules}
+use Rattle.std.proofs.lemmas.List.Sorted.{IsPartitionPoint-from_clause}
+use Rattle.spans.proofs.Halves.{stands, parted, point_bounds}
 use Rattle.spans.proofs.first_from.Goals as goal
 
--- the row that is looked at
-abbrev middle : ℕ → ℕ → ℕ
-middle low high = low + (high - low) / 2
-
-pub loop-low-init : goal.loop-low-init
-loop-low-init c = halved_all _ _ _ _
-
-pub loop-low-preserved-then-is_before : goal.loop-low-preserved-then-is_before
-loop-low-preserved-then-is_before c =
-    let a = c.args in
-    halved_up a.program.now a.set a.rule a.part c.loop-low.low c.loop-low.high (middle c.loop-low.low c.loop-low.high) c.requires (omega arith) (omega arith) (sym c.is_before.ensures ∙ c.if-is_before.true) c.loop-low.invariant
-
-pub loop-low-preserved : goal.loop-low-preserved
-loop-low-preserved c =
-    let a = c.args in
-    halved_down a.program.now a.set a.rule a.part c.loop-low.low c.loop-low.high (middle c.loop-low.low c.loop-low.high) c.requires (omega arith) (omega arith) (sym c.is_before.ensures ∙ c.if-is_before.false) c.loop-low.invariant
-
 pub returns : goal.returns
-returns c = halved_bound _ _ _ _ _ _ (omega arith) c.loop-low.invariant
+returns c =
+    let a = c.args in
+    point_bounds a.program.now a.set a.rule a.part c.partition_point.result (search rules)
+    (IsPartitionPoint-from_clause (stands a.program.now a.set a.rule a.part) _ _ (rw c.as_chunks.ensures.front at c.partition_point.ensures.partitioned) (parted a.program.now a.set a.rule a.part c.requires) (λ x b f' k. search rules))

@@ -1,4 +1,4 @@
--- The words behind plans-at are `placed`, the scalars counted on.
+-- The words behind plans_at are `placed`, the scalars counted on.
 use Rattle.state.specs.View.{plans_at}
 use mathlib.Core.Path.{◌≡◌, ◌∙◌, ap}
 use Prim.Native.Nat.{◌-◌}

@@ -1,12 +1,10 @@
 -- The same in the part that holds the plans.
 use Rattle.state.specs.View.{plans_at}
 use native.Mathlib.Omega.{arith}
-use mathlib.Core.Path.{◌≡◌, ◌∙◌, ap}
-use mathlib.Core.List.{List, []}
-use Prim.Native.Nat.{ℕ, ◌-◌}
+use mathlib.Core.Path.{◌≡◌}
+use mathlib.Core.List.{[]}
+use Prim.Native.Nat.{◌-◌}
 use lib.ListN.{length, drop, length-drop}
-use Rattle.lists.specs.Tables.{index_of}
-use Rattle.table.specs.Rows.{keys}
 use Rattle.table.proofs.Parts.{rest_is}
 use Rattle.state.proofs.View.{plan_keys, plan_keys_rise}
 use Rattle.state.proofs.find_plan.Goals as goal
@@ -21,4 +19,4 @@ pub returns : goal.returns
 returns c =
     let a = c.args in
     let W = a.words.now in
-    c.find.ensures ∙ ap (λ (l : List ℕ). index_of a.id (keys 18 a.plans l)) (rest_is plans_at W []) ∙ ap (index_of a.id) (plan_keys a.plans W)
+    rw (← plan_keys a.plans W, ← rest_is plans_at W []) c.find.ensures

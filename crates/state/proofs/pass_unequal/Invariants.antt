@@ -6,7 +6,7 @@ use Rattle.state.specs.View.{atom_at}
 use Rattle.state.proofs.pass_unequal.Given as goal
 
 abbrev pub invariant-loop-k : goal.invariant-loop-k
-invariant-loop-k l = (l.from ≤ l.k) × (l.k ≤ l.n) × ((i : ℕ) → l.from ≤ i → i < l.k → equal_to l.p l.a l.b (atom_at l.words i) ≡ false)
+invariant-loop-k l = (i : ℕ) → l.from ≤ i → i < l.k → equal_to l.p l.a l.b (atom_at l.words i) ≡ false
 
 abbrev pub decreases-loop-k : goal.decreases-loop-k
 decreases-loop-k l = l.n - l.k

@@ -1,8 +1,13 @@
 -- Four words are the list that they hold, with zeros behind.
+use Prim.Native.Nat.{ℕ}
+use lib.ListN.{get_or}
+use borrow.Author.Rules.{rules}
+use Rattle.state.specs.View.{plan_at}
+use Rattle.state.proofs.Arrays.{made_by}
 use Rattle.state.proofs.View.{justification_words}
 use Rattle.state.proofs.plan_justifications.Goals as goal
 
 pub returns : goal.returns
 returns c =
-    let e = justification_words c.args.words.now c.args.k c.requires.0 c.requires.1 in
-    cc
+    let a = c.args in
+    rw (made_by _ _ (λ (j : ℕ). get_or (plan_at a.words.now a.k).justifications j 0) (λ i y q e. search rules) c.from_fn.result 4 c.from_fn.ensures.items) (justification_words a.words.now a.k c.requires.0 c.requires.1)

@@ -1,9 +1,8 @@
-use mathlib.Core.Path.{◌≡◌, ap, ◌∙◌}
+use mathlib.Core.Path.{◌∙◌}
 use mathlib.Core.Bool.{true, false}
 use Prim.Native.Nat.{◌<◌}
 use native.Mathlib.Omega.{arith}
 use lib.ListN.{length}
-use borrow.Author.Rules.{rules}
 use Rattle.lists.proofs.Bind.{append-nil}
 use Rattle.lists.proofs.Tables.{keep_by_nil, keep_by_more}
 use Rattle.table.specs.Rows.{row}
@@ -13,12 +12,7 @@ use Rattle.table.proofs.keep.Goals as goal
 use Rattle.table.proofs.keep.Goals.{then-marks-i, else-marks-i}
 
 pub loop-i-init : goal.loop-i-init
-loop-i-init c = (search rules, compacted_none _ _ _ (keep_by_nil c.args.marks.now))
-
-pub copy_down-requires : goal.copy_down-requires
-copy_down-requires c =
-    let h = below c.loop-i.i c.args.n c.args.width c.loop-i-test.true in
-    (omega (arith, c.loop-i.invariant.1.count), omega (arith, c.loop-i.invariant.1.long))
+loop-i-init c = compacted_none _ _ _ (keep_by_nil c.args.marks.now)
 
 pub loop-i-preserved : goal.loop-i-preserved
 loop-i-preserved c =
@@ -31,18 +25,6 @@ loop-i-preserved c =
     let h = below i a.n a.width c.loop-i-test.true in
     let hm : i < length ms = omega arith in
     elim c.if-marks-i.branch [
-      | then-marks-i w ↦ rw (w.words-is, w.j-is, w.copy_down.ensures) (search rules, compacted_kept a.width (kept a.width ms l₀) l₀ l i j c.loop-i.invariant.1 (omega arith) (keep_by_more ms (row a.width l₀) i true hm w.if-marks-i.true))
-      | else-marks-i w ↦ rw (w.words-is, w.j-is) (search rules, compacted_left_out a.width (kept a.width ms l₀) l₀ l i j c.loop-i.invariant.1 (keep_by_more ms (row a.width l₀) i false hm w.if-marks-i.false ∙ append-nil _))
+      | then-marks-i w ↦ rw (w.words-is, w.j-is, w.copy_down.ensures) (compacted_kept a.width (kept a.width ms l₀) l₀ l i j c.loop-i.invariant (omega arith) (keep_by_more ms (row a.width l₀) i true hm w.if-marks-i.true))
+      | else-marks-i w ↦ rw (w.words-is, w.j-is) (compacted_left_out a.width (kept a.width ms l₀) l₀ l i j c.loop-i.invariant (keep_by_more ms (row a.width l₀) i false hm w.if-marks-i.false ∙ append-nil _))
     ]
-
-pub shape_of-words : goal.shape_of-words
-shape_of-words c = c.loop-i.invariant.1.long
-
-pub returns : goal.returns
-returns c =
-    let a = c.args in
-    let e : c.loop-i.i ≡ a.n = omega arith in (
-      omega (arith, c.loop-i.invariant.1.count),
-      c.loop-i.invariant.1.front ∙ ap (kept a.width a.marks.now a.words.now) e,
-      rw (← e) c.loop-i.invariant.1.behind,
-    )

@@ -1,11 +1,8 @@
--- `text::newline` meets its contract. The loop's invariant: no byte 10 stands from `from` up to i.
-use Prim.Native.Nat.{◌-◌}
-use lib.ListN.{length}
-use Rattle.text.proofs.Ends.{Looking}
+-- No byte 10 stands from `from` up to i.
+use mathlib.Core.Logic.{◌≢◌}
+use Prim.Native.Nat.{ℕ, ◌<◌, ◌≤◌}
+use lib.ListN.{get_or}
 use Rattle.text.proofs.newline.Given as goal
 
 abbrev pub invariant-loop-i : goal.invariant-loop-i
-invariant-loop-i l = Looking l.text l.from l.i
-
-abbrev pub decreases-loop-i : goal.decreases-loop-i
-decreases-loop-i l = length l.text - l.i
+invariant-loop-i l = (l.from ≤ l.i) × ((k : ℕ) → l.from ≤ k → k < l.i → get_or l.text k 0 ≢ 10)

@@ -1,32 +1,29 @@
-use borrow.Author.Tests.{ltb-true, ltb-false}
-use mathlib.Core.Path.{◌≡◌, refl}
-use mathlib.Core.Bool.{Bool, true, false}
+use mathlib.Core.Path.{◌≡◌, ap, ◌∙◌}
+use mathlib.Core.Bool.{false}
 use mathlib.Core.List.{List}
-use mathlib.Core.Logic.{◌≢◌}
-use Prim.Native.Nat.{ℕ, ◌+◌, ◌<◌, ◌≤◌}
+use mathlib.Core.Logic.{◌≢◌, ⊎_elim}
+use Prim.Native.Nat.{ℕ, ◌+◌, ◌-◌, ◌<◌, ◌≤◌}
 use native.Mathlib.Omega.{arith}
-use lib.Dec.{ltb}
-use lib.ListN.{get_or}
+use lib.Dec.{eqb}
+use lib.ListN.{length, take, drop, get_or, length-take, length-drop}
+use lib.Seq.{get_or-take, get_or-drop}
+use borrow.Author.Tests.{eqb-false}
+use Rattle.std.proofs.lemmas.Bool.{cases_lt}
 use Rattle.text.proofs.pass_eights.Goals as goal
 
-pub loop-i-init : goal.loop-i-init
-loop-i-init c = (omega arith, c.requires, λ k p q. absurd (omega arith))
-
-pub returns-then-any_newline : goal.returns-then-any_newline
-returns-then-any_newline c = c.loop-i.invariant
+-- none before i, none from i to e
+further : (text : List ℕ) (from i e : ℕ) → e ≤ length text → ((k : ℕ) → from ≤ k → k < i → get_or text k 0 ≢ 10)
+    → ((k d : ℕ) → 0 ≤ k → k < length (take (e - i) (drop i text)) → eqb (get_or (take (e - i) (drop i text)) k d) 10 ≡ false) → (k : ℕ) → from ≤ k → k < e → get_or text k 0 ≢ 10
+further text from i e long before part k p q = ⊎_elim (λ (h : k < i). before k p h) (λ (h : i ≤ k). at h) (cases_lt k i)
+  where
+    at : i ≤ k → get_or text k 0 ≢ 10
+    at h =
+        let same : i + (k - i) ≡ k = omega arith in
+        let g : get_or (take (e - i) (drop i text)) (k - i) 0 ≡ get_or text k 0
+        = get_or-take (e - i) (drop i text) (k - i) 0 (omega arith) ∙ get_or-drop i text (k - i) 0 ∙ ap (λ (j : ℕ). get_or text j 0) same in
+        rw (← g) (eqb-false _ 10 (part (k - i) 0 (omega arith) (rw (length-take, length-drop) (omega arith))))
 
 pub loop-i-preserved : goal.loop-i-preserved
 loop-i-preserved c =
-    let a = c.args in
     let l = c.loop-i in
-    let t = c.loop-i-test.true in
-    let none = c.any_newline.ensures c.if-any_newline.false in
-    (omega arith, omega arith, λ k p q. further a.text.now a.from l.i l.invariant.2 none k p q (ltb k l.i) refl)
-  where
-    further : (text : List ℕ) (from i : ℕ) → ((k : ℕ) → from ≤ k → k < i → get_or text k 0 ≢ 10) → ((k : ℕ) → i ≤ k → k < i + 8 → get_or text k 0 ≢ 10)
-        → (k : ℕ) → from ≤ k → k < i + 8 → (b : Bool) → ltb k i ≡ b → get_or text k 0 ≢ 10
-    further text from i u v k p q true e = u k p (ltb-true k i e)
-    further text from i u v k p q false e = v k (ltb-false k i e) q
-
-pub returns : goal.returns
-returns c = c.loop-i.invariant
+    (omega arith, omega arith, further c.args.text.now c.args.from l.i (l.i + 8) (omega arith) l.invariant.2 c.if-not-contains.ensures.cases)

@@ -1,12 +1,12 @@
--- The loop's invariant: no candidate before c fits.
-use Prim.Native.Nat.{◌-◌, ◌/◌, ◌%◌}
+-- The loops' invariants: no candidate of the plans before k fits, and none of the justifications of plan k before j.
+use Prim.Native.Nat.{◌+◌, ◌*◌, ◌/◌, ◌%◌, ◌≤◌, max}
+use Rattle.std.specs.Prelude.{Option}
 use Rattle.state.specs.View.{plan_at}
-use Rattle.queries.specs.declared.Wanted.{Wanted}
 use Rattle.queries.specs.Answers.{justification_candidate, Skipped}
 use Rattle.queries.proofs.candidates.skip_justifications.Given as goal
 
-abbrev pub invariant-loop-c : goal.invariant-loop-c
-invariant-loop-c l = (b : Wanted) → Skipped (λ k. justification_candidate (plan_at l.words (k / 4)) (k % 4)) l.i l.a b l.from l.c
+abbrev pub invariant-loop-k : goal.invariant-loop-k
+invariant-loop-k l = (l.k * 4 ≤ max l.from (l.plans * 4)) × ((b : Option _) → Skipped (λ c. justification_candidate (plan_at l.words (c / 4)) (c % 4)) l.i l.a b l.from (max l.from (l.k * 4)))
 
-abbrev pub decreases-loop-c : goal.decreases-loop-c
-decreases-loop-c l = l.n - l.c
+abbrev pub invariant-loop-j : goal.invariant-loop-j
+invariant-loop-j l = (l.j ≤ 4) × ((b : Option _) → Skipped (λ c. justification_candidate (plan_at l.words (c / 4)) (c % 4)) l.i l.a b l.from (l.k * 4 + l.j))

@@ -1,7 +1,0 @@
--- The column is the plan's.
-use mathlib.Core.Path.{◌∙◌}
-use Rattle.state.proofs.View.{plan_id_is}
-use Rattle.state.proofs.plan_id.Goals as goal
-
-pub returns : goal.returns
-returns c = let a = c.args in c.plan_word.ensures ∙ plan_id_is a.words.now a.k

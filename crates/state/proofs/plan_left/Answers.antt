@@ -1,7 +1,0 @@
--- The column is the plan's.
-use mathlib.Core.Path.{◌∙◌}
-use Rattle.state.proofs.View.{plan_left_is}
-use Rattle.state.proofs.plan_left.Goals as goal
-
-pub returns : goal.returns
-returns c = let a = c.args in c.plan_word.ensures ∙ plan_left_is a.words.now a.k
