@@ -1,15 +1,16 @@
 -- What the rule's work is as an answer, and that it meets no limit where there is room for eight more atoms.
-use mathlib.Core.Path.{◌≡◌, sym, ap, ◌∙◌}
-use mathlib.Core.Bool.{not}
-use mathlib.Core.Logic.{◌≢◌}
+use Rattle.std.specs.Prelude.{Result, Ok, Err, is_err, OnErr}
+use mathlib.Core.Path.{◌≡◌, refl, ap}
+use mathlib.Core.Bool.{true, false, not}
 use mathlib.Core.List.{List, [], ◌∷◌}
 use Prim.Native.Nat.{ℕ, ◌+◌, ◌-◌, ◌≤◌}
 use native.Mathlib.Omega.{arith}
 use lib.Dec.{eqb}
 use lib.ListN.{length, length-append}
 use borrow.Author.Tests.{ne_eqb, lt-leb}
-use Rattle.lists.proofs.Lists.{count_keep}
+use Rattle.lists.proofs.Lists.{count_keep, clash}
 use Rattle.lists.proofs.Cuts.{if_either}
+use Rattle.model.specs.declared.refusal.Refusal.{Refusal}
 use Rattle.model.specs.declared.Row.{Row}
 use Rattle.model.specs.declared.Atom.{Atom}
 use Rattle.model.specs.Program.{body}
@@ -23,35 +24,27 @@ use Rattle.matching.specs.declared.Rule.{Rule}
 use Rattle.state.specs.declared.Scalars.{Scalars}
 use Rattle.state.specs.View.{config_of, atom_bar}
 use Rattle.state.proofs.Live.{atoms_counted}
-use Rattle.stepping.specs.declared.Did.TheVariants as Did
 use Rattle.stepping.specs.declared.Progress.{Progress}
-use Rattle.stepping.specs.Steps.{did_of, answered_by}
+use Rattle.stepping.specs.Steps.{answered_by}
+use Rattle.stepping.proofs.Answers.{answers_refused}
 use Rattle.stepping.proofs.Room.{atom_free}
 use Rattle.stepping.proofs.Standing.{lawful_rows}
 use Rattle.acting.specs.Actions.{Fires, Shown, meta_work}
 
 -- THE ANSWER
--- a refusal tells its number and nothing else
-pub refusal_told : (r : Progress) (s : Scalars) (n : ℕ) → r ≡ record { scalars = s; gone = 0; number = n; did = Did.Refused } → r ≡ record { scalars = s; gone = 0; number = r.number; did = Did.Refused }
-refusal_told r s n e = e ∙ (λ i. record { scalars = s; gone = 0; number = sym (ap (λ (x : Progress). x.number) e) i; did = Did.Refused })
-
-module _ (words : List ℕ) (s : Scalars) (r : Progress) where
+module _ (words : List ℕ) (s : Scalars) where
   -- the work is done
-  pub answers_done : (words' : List ℕ) (o : Outcome) → r.number ≡ 0 → Shown o words' r → answered_by s.next words' r ≡ answer_of (config_of words s) o
+  pub answers_done : (words' : List ℕ) (r : Result Progress Refusal) (o : Outcome) → is_err r ≡ false → Shown o words' r → answered_by s words' r ≡ answer_of (config_of words s) o
   unfolding answer_of
-  answers_done words' (refused n) z h = absurd (omega (arith, h))
-  answers_done words' (accepted L) z h = λ i. record { number = h.0 i; did = h.1 i; config = h.2 i; made = (h.2 i).next - s.next; gone = h.3 i }
+  answers_done words' (Ok x) (refused n) z h = absurd h
+  answers_done words' (Ok x) (accepted L) z h = λ i. record { number = 0; did = h.0 i; config = h.1 i; made = (h.1 i).next - s.next; gone = h.2 i }
+  answers_done words' (Err e) o z h = clash refl z
 
   -- the work is refused, and the words are what they were
-  pub answers_refused : (words' words'' : List ℕ) (o : Outcome) → r.number ≢ 0 → Shown o words'' r → r ≡ record { scalars = s; gone = 0; number = r.number; did = Did.Refused } → words' ≡ words → answered_by s.next words' r ≡ answer_of (config_of words s) o
-  unfolding answer_of
-  answers_refused words' words'' (accepted L) z h e w = absurd (z h.0)
-  answers_refused words' words'' (refused n) z h e w =
-      (λ i. answered_by s.next (w i) (e i))
-      ∙ (λ i. record { number = h.1 i; did = did_of Did.Refused; config = config_of words s; made = none i; gone = 0 })
-    where
-      none : s.next - s.next ≡ 0
-      none = omega arith
+  pub answers_barred : (words' : List ℕ) (r : Result Progress Refusal) (o : Outcome) → is_err r ≡ true → Shown o words' r → answered_by s words r ≡ answer_of (config_of words s) o
+  answers_barred words' (Ok x) o z h = clash z refl
+  answers_barred words' (Err e) (refused n) z h = answers_refused words s e (refused n) (ap refused h)
+  answers_barred words' (Err e) (accepted L) z h = absurd h
 
 -- NO LIMIT IS MET
 -- room for n more atoms
@@ -117,10 +110,10 @@ accepts_all s t (r ∷ rows) v L h = at (act s t r v L) (goes_on s t (length row
     at (barred m) g more = g
 
 -- "a rule has up to .. 8 of part 3 (body)": room for eight is enough
-pub no_limit : (program words words' : List ℕ) (s : Scalars) (rule : Rule) (values : List ℕ) (r : Progress) → Fires program words s rule → s.next ≤ 65528 → s.atoms ≤ 248 →
-    Shown (meta_work program (config_of words s) rule values) words' r → r.number ≡ 0
+pub no_limit : (program words words' : List ℕ) (s : Scalars) (rule : Rule) (values : List ℕ) (r : Result Progress Refusal) → Fires program words s rule → s.next ≤ 65528 → s.atoms ≤ 248 →
+    Shown (meta_work program (config_of words s) rule values) words' r → is_err r ≡ false
 unfolding meta_work
-no_limit program words words' s rule values r f h k = at (act_all rule.set rule.number rows values L) (accepts_all rule.set rule.number rows values L room)
+no_limit program words words' s rule values r f h k = at r (act_all rule.set rule.number rows values L) (accepts_all rule.set rule.number rows values L room)
   where
     rows : List Row
     rows = body (rows_of program) rule.set rule.number
@@ -134,6 +127,12 @@ no_limit program words words' s rule values r f h k = at (act_all rule.set rule.
         let n = atoms_counted words s in
         (omega arith, omega arith)
 
-    at : (o : Outcome) → Accepts o → Shown o words' r → r.number ≡ 0
-    at (refused n) a b = absurd a
-    at (accepted M) a b = b.0
+    at : (t : Result Progress Refusal) (o : Outcome) → Accepts o → Shown o words' t → is_err t ≡ false
+    at t (refused n) a b = absurd a
+    at (Ok x) (accepted M) a b = refl
+    at (Err e) (accepted M) a b = absurd b
+
+-- what is not refused tells nothing of a refusal
+pub no_refusal : (P : Type 0) (r : Result Progress Refusal) → is_err r ≡ false → OnErr r P
+no_refusal P (Ok x) z = tt
+no_refusal P (Err e) z = clash refl z

@@ -1,15 +1,16 @@
 -- The actions of a rule in turn: what is left of them is the rows from k on, after a log that the words show.
+use Rattle.std.specs.Prelude.{Option, Some, None, IfSome, Result, Ok, Err}
 use mathlib.Core.Path.{◌≡◌, refl, sym, ap, ◌∙◌, subst}
-use mathlib.Core.Bool.{true, false}
-use mathlib.Core.Logic.{◌≢◌}
 use mathlib.Core.List.{List, ◌∷◌}
 use Prim.Native.Nat.{ℕ, ◌+◌, ◌-◌, ◌≤◌, ◌<◌}
 use native.Mathlib.Omega.{arith}
 use lib.ListN.{length, length-map}
+use Rattle.std.proofs.lemmas.Option.{none-some}
 use Rattle.lists.specs.Lists.{In, count_up}
-use Rattle.lists.proofs.Lists.{in_map, clash}
+use Rattle.lists.proofs.Lists.{in_map}
 use Rattle.lists.proofs.Search.{in_count_up}
 use Rattle.lists.proofs.Tests.{length_count_up}
+use Rattle.model.specs.declared.refusal.Refusal.{Refusal}
 use Rattle.model.specs.declared.Row.{Row}
 use Rattle.model.specs.Program.{body}
 use Rattle.model.specs.Log.{nothing, fired, Log, begin, report, Outcome}
@@ -22,7 +23,6 @@ use Rattle.matching.specs.Rules.{rows_between}
 use Rattle.state.specs.declared.Scalars.{Scalars}
 use Rattle.state.specs.View.{config_of}
 use Rattle.stepping.specs.declared.Made.{Made}
-use Rattle.stepping.specs.declared.Made.TheVariants as Made
 use Rattle.stepping.specs.declared.Did.TheVariants as Did
 use Rattle.stepping.specs.declared.Progress.{Progress}
 use Rattle.stepping.specs.Steps.{made_of}
@@ -78,16 +78,22 @@ module _ (program words : List ℕ) (s : Scalars) (rule : Rule) (values : List �
   row_flag k r e h l = action_flag r (meta_action (lawful_rows program words s f.well) rule.set rule.number (sym f.located.object_is ∙ f.meta) r (subst (λ (x : Row). In x (body (rows_of program) rule.set rule.number)) (sym e) (row_between k h l)))
 
 -- HOW IT GOES ON
-module _ (o : Outcome) (program : List ℕ) (set number end k : ℕ) (words : List ℕ) (s : Scalars) (v : List ℕ) (made : Made) (gone : ℕ) (w : Running o program set number end k words s v made gone) where
+pub done_told : (words : List ℕ) (x : Acted) (t : Option Acted) → t ≡ Some x → IfSome t (λ y. Workable words y.scalars × (y.gone ≤ 320)) → Workable words x.scalars × (x.gone ≤ 320)
+done_told words x t e = subst (λ (u : Option Acted). IfSome u (λ y. Workable words y.scalars × (y.gone ≤ 320))) e
+
+module _ {o : Outcome} {program : List ℕ} {set number end k : ℕ} {words : List ℕ} {s : Scalars} {v : List ℕ} {made : Made} {gone : ℕ} (w : Running o program set number end k words s v made gone) where
   abbrev L : Log
   L = w.log
 
-  -- no row is left
-  pub running_end : end ≤ k → Shown o words (record { scalars = s; gone = gone; number = 0; did = Did.Fired set number made })
-  unfolding rows_between act_all
-  running_end h = rw (w.rest ∙ ap (λ (rows : List Row). act_all set number rows v L) (rows_none program k end h)) (refl, sym w.did_is, sym w.config_is, sym w.gone_is)
+  abbrev done : Scalars → Progress
+  done t = record { scalars = t; gone = gone; did = Did.Fired set number made }
 
-  module _ (h : k < end) (row : Row) (e : row ≡ row_at program k) (words' : List ℕ) (x : Acted) (a : Acts row v made (config_of words s) (config_of words' x.scalars) x) where
+  -- no row is left
+  pub running_end : end ≤ k → Shown o words (Ok (done s))
+  unfolding rows_between act_all
+  running_end h = rw (w.rest ∙ ap (λ (rows : List Row). act_all set number rows v L) (rows_none program k end h)) (sym w.did_is, sym w.config_is, sym w.gone_is)
+
+  module _ (h : k < end) (row : Row) (e : row ≡ row_at program k) (words' : List ℕ) where
     abbrev rest_of : List ℕ → Log → Outcome
     rest_of u M = act_all set number (rows_between program (k + 1) end) u M
 
@@ -95,43 +101,43 @@ module _ (o : Outcome) (program : List ℕ) (set number end k : ℕ) (words : Li
     unfolding rows_between act_all
     one_more = w.rest ∙ ap (λ (rows : List Row). act_all set number rows v L) (rows_next program k end h ∙ ap (λ (r : Row). r ∷ rows_between program (k + 1) end) (sym e))
 
-    leaves : Leaves set number L (config_of words' x.scalars) x (act set number row v L)
+    leaves : (r : Result (Option Acted) Refusal) → Acts row v made s words words' r → Leaves set number L s words' r (act set number row v L)
     unfolding Acts
-    leaves = a set number L w.config_is w.did_is
+    leaves r a = a set number L w.config_is w.did_is
 
     -- the action meets a limit
-    pub running_barred : x.number ≢ 0 → (words'' : List ℕ) (r : Progress) → r.number ≡ x.number → Shown o words'' r
+    pub running_barred : (n : Refusal) → Acts row v made s words words' (Err n) → (words'' : List ℕ) → Shown o words'' (Err n)
     unfolding after_action
-    running_barred z words'' r n = rw one_more (at (act set number row v L) leaves)
+    running_barred n a words'' = rw one_more (at (act set number row v L) (leaves (Err n) a))
       where
-        at : (b : Action) → Leaves set number L (config_of words' x.scalars) x b → Shown (after_action rest_of L b) words'' r
-        at (acted u M) q = absurd (z q.0)
-        at stopped q = absurd (z q.0)
-        at (barred m) q = (q.0, n ∙ q.1)
+        at : (b : Action) → Leaves set number L s words' (Err n) b → Shown (after_action rest_of L b) words'' (Err n)
+        at (acted u M) q = absurd q
+        at stopped q = absurd q
+        at (barred m) q = q
 
     -- its instance does not live
-    pub running_stopped : x.number ≡ 0 → x.stopped ≡ true → Shown o words' (record { scalars = x.scalars; gone = gone; number = 0; did = Did.Fired set number made })
+    pub running_stopped : (t : Option Acted) → t ≡ None → Acts row v made s words words' (Ok t) → Shown o words' (Ok (done s))
     unfolding after_action
-    running_stopped z t = rw one_more (at (act set number row v L) leaves)
+    running_stopped t n a = rw one_more (at (act set number row v L) (leaves (Ok None) (subst (λ (u : Option Acted). Acts row v made s words words' (Ok u)) n a)))
       where
-        at : (b : Action) → Leaves set number L (config_of words' x.scalars) x b → Shown (after_action rest_of L b) words' (record { scalars = x.scalars; gone = gone; number = 0; did = Did.Fired set number made })
-        at (acted u M) q = clash t q.1
-        at stopped q = (refl, sym w.did_is, sym q.2, sym w.gone_is)
-        at (barred m) q = absurd (omega (arith, q))
+        at : (b : Action) → Leaves set number L s words' (Ok None) b → Shown (after_action rest_of L b) words' (Ok (done s))
+        at (acted u M) q = absurd q
+        at stopped q = (sym w.did_is, sym q.1, sym w.gone_is)
+        at (barred m) q = absurd q
 
     -- it is done
-    pub running_next : x.number ≡ 0 → x.stopped ≡ false → Workable words' x.scalars → Running o program set number end (k + 1) words' x.scalars x.values x.made (gone + x.gone)
+    pub running_next : (x : Acted) (t : Option Acted) → t ≡ Some x → Acts row v made s words words' (Ok t) → Workable words' x.scalars → Running o program set number end (k + 1) words' x.scalars x.values x.made (gone + x.gone)
     unfolding after_action
-    running_next z t y = at (act set number row v L) leaves one_more
+    running_next x t n a y = at (act set number row v L) (leaves (Ok (Some x)) (subst (λ (u : Option Acted). Acts row v made s words words' (Ok u)) n a)) one_more
       where
-        at : (b : Action) → Leaves set number L (config_of words' x.scalars) x b → o ≡ after_action rest_of L b → Running o program set number end (k + 1) words' x.scalars x.values x.made (gone + x.gone)
+        at : (b : Action) → Leaves set number L s words' (Ok (Some x)) b → o ≡ after_action rest_of L b → Running o program set number end (k + 1) words' x.scalars x.values x.made (gone + x.gone)
         at (acted u M) q f = record {
           workable = y;
           log = M;
-          config_is = q.3;
-          gone_is = q.4 ∙ ap (λ (g : ℕ). g + x.gone) w.gone_is;
-          did_is = q.5;
-          rest = f ∙ ap (λ (l : List ℕ). rest_of l M) q.2;
+          config_is = q.1;
+          gone_is = q.2 ∙ ap (λ (g : ℕ). g + x.gone) w.gone_is;
+          did_is = q.3;
+          rest = f ∙ ap (λ (l : List ℕ). rest_of l M) q.0;
         }
-        at stopped q f = clash q.1 t
-        at (barred m) q f = absurd (omega (arith, q))
+        at stopped q f = absurd (none-some x (sym q.0))
+        at (barred m) q f = absurd q

@@ -1,5 +1,7 @@
 -- What an action asks for, and what it leaves, whatever the log holds already.
-use Rattle.std.specs.Prelude.{◌≡◌, Bool, true, false, ◌⊎◌, List, ℕ, ◌+◌, ◌≤◌, set, if◌then◌else◌}
+use Rattle.std.specs.Prelude.{◌≡◌, false, ◌⊎◌, List, ℕ, ◌+◌, ◌≤◌, set, Option, None, Result, IsSomeAnd, IsOkAnd, IsErrAnd, if◌then◌else◌}
+use Rattle.model.specs.declared.refusal.Refusal.{Refusal}
+use Rattle.model.specs.Refusals.{number_of}
 use Rattle.lists.specs.Lists.{In}
 use Rattle.model.specs.declared.Row.{Row}
 use Rattle.model.specs.Program.{variable?, constant, body}
@@ -32,23 +34,24 @@ pub record Workable (words : List ℕ) (s : Scalars) : Type 0 where
 unfoldable pub FlagNumber : Row → Type 0
 FlagNumber r = (r.op ≡ 23) ⊎ (r.op ≡ 24) → (1 ≤ constant r.a) × (constant r.a ≤ 16)
 
--- an action that is done or stops, and removes nothing
-abbrev pub nothing_gone : Scalars → List ℕ → Made → Bool → Acted
-nothing_gone scalars values made b = record { scalars = scalars; values = values; gone = 0; number = 0; made = made; stopped = b }
+-- what an action that is done leaves, and tells of the log
+abbrev pub Done : ℕ → ℕ → Log → List ℕ → Acted → List ℕ → Log → Type 0
+Done s n L words x values M = (values ≡ x.values) × (M.config ≡ config_of words x.scalars) × (M.gone ≡ L.gone + x.gone) × (M.did ≡ fired s n (made_of x.made))
 
--- what an action that began with the log L leaves
-abbrev pub Leaves : ℕ → ℕ → Log → Config → Acted → Action → Type 0
-Leaves s n L d r (acted values M) = (r.number ≡ 0) × (r.stopped ≡ false) × (values ≡ r.values) × (M.config ≡ d) × (M.gone ≡ L.gone + r.gone) × (M.did ≡ fired s n (made_of r.made))
-Leaves s n L d r stopped = (r.number ≡ 0) × (r.stopped ≡ true) × (L.config ≡ d)
-Leaves s n L d r (barred m) = (1 ≤ m) × (r.number ≡ m)
+-- what an action that began with the log L and these scalars leaves: none where the actions stop
+abbrev pub Leaves : ℕ → ℕ → Log → Scalars → List ℕ → Result (Option Acted) Refusal → Action → Type 0
+Leaves s n L lent words r (acted values M) = IsOkAnd r (λ o. IsSomeAnd o (λ x. Done s n L words x values M))
+Leaves s n L lent words r stopped = IsOkAnd r (λ o. (o ≡ None) × (L.config ≡ config_of words lent))
+Leaves s n L lent words r (barred m) = IsErrAnd r (λ e. m ≡ number_of e)
 
-unfoldable pub Acts : Row → List ℕ → Made → Config → Config → Acted → Type 0
-Acts row values made c d r = (s n : ℕ) (L : Log) → L.config ≡ c → L.did ≡ fired s n (made_of made) → Leaves s n L d r (act s n row values L)
+unfoldable pub Acts : Row → List ℕ → Made → Scalars → List ℕ → List ℕ → Result (Option Acted) Refusal → Type 0
+Acts row values made lent before words r =
+    (s n : ℕ) (L : Log) → L.config ≡ config_of before lent → L.did ≡ fired s n (made_of made) → Leaves s n L lent words r (act s n row values L)
 
 -- what the deletion of an instance leaves
 pub record Deletes (id : ℕ) (values : List ℕ) (made : Made) (c d : Config) (r : Acted) : Type 0 where
   pub left : d ≡ remove id c
-  pub told : r ≡ record { scalars = r.scalars; values = values; gone = gone_by (graph c) (deletion id); number = 0; made = made; stopped = false }
+  pub told : r ≡ record { scalars = r.scalars; values = values; gone = gone_by (graph c) (deletion id); made = made }
 
 -- a meta rule whose body stands where it says
 pub record Fires (program words : List ℕ) (s : Scalars) (rule : Rule) : Type 0 where
@@ -60,7 +63,7 @@ pub record Fires (program words : List ℕ) (s : Scalars) (rule : Rule) : Type 0
 unfoldable pub meta_work : List ℕ → Config → Rule → List ℕ → Outcome
 meta_work program c rule values = act_all rule.set rule.number (body (rows_of program) rule.set rule.number) values (report (fired rule.set rule.number nothing) (begin c))
 
--- an outcome as the code shows it: its number, and if that is 0 what was done and what is left
-abbrev pub Shown : Outcome → List ℕ → Progress → Type 0
-Shown (refused n) words r = (1 ≤ n) × (r.number ≡ n)
-Shown (accepted L) words r = (r.number ≡ 0) × (did_of r.did ≡ L.did) × (config_of words r.scalars ≡ L.config) × (r.gone ≡ L.gone)
+-- an outcome as the code shows it: what was done and what is left, or why it is refused
+abbrev pub Shown : Outcome → List ℕ → Result Progress Refusal → Type 0
+Shown (refused n) words r = IsErrAnd r (λ e. n ≡ number_of e)
+Shown (accepted L) words r = IsOkAnd r (λ x. (did_of x.did ≡ L.did) × (config_of words x.scalars ≡ L.config) × (x.gone ≡ L.gone))

@@ -3,42 +3,46 @@
 // is left `phase cycle atoms plans`.
 #![tactic(auto)]
 
+use in_place::Counts;
 use interpreter::Reply;
-use state::{Config, Scalars};
+use state::{Config, Scalars, Words};
 use std::io;
 
 fn say(rt: &impl Print, x: u64, after: &str) -> io::Result<()> {
     print!(rt; "{x}{after}")
 }
 
-fn tell_plan(rt: &impl Print, words: [u32; 2432]) -> io::Result<()> {
+fn tell_plan(rt: &impl Print, words: &Words) -> io::Result<()> {
     print!(rt; "  ")?;
-    let q = state::plan_at(&words, 0);
+    let q = state::plan_at(words, 0);
     say(rt, q.left as u64, " ")?;
     say(rt, q.flags as u64, " ")?;
     say(rt, q.subgoal as u64, "")
 }
 
-fn tell(rt: &impl Print, case: u64, r: Reply) -> io::Result<()> {
+fn tell(rt: &impl Print, case: u64, r: Reply<Counts>) -> io::Result<()> {
+    let (number, told) = match r.answer {
+        Ok(told) => (0, told),
+        Err(refusal) => (refusal.number(), Counts { made: 0, gone: 0 }),
+    };
     let scalars = r.config.scalars;
-    let words = r.config.words;
     say(rt, case, " ")?;
-    say(rt, r.number as u64, " ")?;
-    say(rt, r.made as u64, " ")?;
-    say(rt, r.gone as u64, "  ")?;
+    say(rt, number as u64, " ")?;
+    say(rt, told.made as u64, " ")?;
+    say(rt, told.gone as u64, "  ")?;
     say(rt, scalars.phase as u64, " ")?;
     say(rt, scalars.waiting as u64, " ")?;
     say(rt, scalars.atoms as u64, " ")?;
     say(rt, scalars.plans as u64, "")?;
     if 0 < scalars.plans {
-        tell_plan(rt, words)?;
+        tell_plan(rt, &r.config.words)?;
     }
     println!(rt)
 }
 
 // The reading 1(3, 1200) is atom 1, it justifies plan 2, whose first step made the subgoal 3(3, 1200), atom 3.
 fn raised() -> Config {
-    let mut words = [0u32; 2432];
+    let mut words = Config::fresh().words;
     words[0] = 1;
     words[state::ATOM_P] = 1;
     words[state::ATOM_A] = 3;
@@ -61,35 +65,30 @@ fn raised() -> Config {
     words[1295] = 65536;
     words[1296] = 65536;
     words[1297] = 65536;
-    let scalars = Scalars {
-        phase: 0,
-        cycle: 0,
-        next: 4,
-        waiting: 0,
-        atoms: 2,
-        plans: 1,
-    };
     Config {
-        words: words,
-        scalars: scalars,
+        words,
+        scalars: Scalars {
+            phase: 0,
+            cycle: 0,
+            next: 4,
+            waiting: 0,
+            atoms: 2,
+            plans: 1,
+        },
     }
 }
 
 // The subgoal was met: the plan's action is next, and the plan waits for its answer.
 fn waiting() -> Config {
-    let before = raised();
-    let scalars = before.scalars;
-    let mut words = before.words;
-    words[1283] = 1;
-    words[1285] = 0;
-    Config {
-        words: words,
-        scalars: scalars.with_phase(2).with_waiting(2),
-    }
+    let mut config = raised();
+    config.words[1283] = 1;
+    config.words[1285] = 0;
+    config.scalars = config.scalars.with_phase(2).with_waiting(2);
+    config
 }
 
 // Two readings that are equal, one that a ceiling takes.
-fn readings(program: &[u32]) -> Reply {
+fn readings(program: &[u32]) -> Reply<Counts> {
     interpreter::sense(
         program,
         Config::fresh(),
@@ -99,13 +98,9 @@ fn readings(program: &[u32]) -> Reply {
 
 // What was sensed, as the next cycle finds it.
 fn sensed(program: &[u32]) -> Config {
-    let r = readings(program);
-    let words = r.config.words;
-    let scalars = r.config.scalars;
-    Config {
-        words: words,
-        scalars: scalars.with_phase(0),
-    }
+    let mut config = readings(program).config;
+    config.scalars = config.scalars.with_phase(0);
+    config
 }
 
 fn senses(rt: &impl Print, program: &[u32]) -> io::Result<()> {
@@ -182,38 +177,35 @@ fn answers(rt: &impl Print, program: &[u32]) -> io::Result<()> {
 // A plan without its rule, ids that were not given out, rows that are no program.
 fn ill_formed(rt: &impl Print, program: &[u32]) -> io::Result<()> {
     tell(rt, 23, interpreter::delete(&[], raised(), 1))?;
-    let late = raised();
-    let words = late.words;
-    let scalars = late.scalars;
-    let config = Config {
-        words: words,
-        scalars: scalars.with_counts(3, 1),
-    };
-    tell(rt, 24, interpreter::delete(program, config, 1))?;
+    let mut late = raised();
+    late.scalars = late.scalars.with_counts(3, 1);
+    tell(rt, 24, interpreter::delete(program, late, 1))?;
     tell(rt, 25, interpreter::delete(&[1, 1, 1], Config::fresh(), 1))
 }
 
-// The first words of a program.
-fn first(rt: &impl Print, words: [u32; 4096], n: usize) -> io::Result<()> {
-    if n <= 4096 {
-        let program = &words[..n];
-        senses(rt, program)?;
-        deletes(rt, program)?;
-        answers(rt, program)?;
-        ill_formed(rt, program)?;
-    }
-    Ok(())
+fn calls(rt: &impl Print, program: &[u32]) -> io::Result<()> {
+    senses(rt, program)?;
+    deletes(rt, program)?;
+    answers(rt, program)?;
+    ill_formed(rt, program)
 }
 
 fn play(rt: &impl Print, case: u64, text: &[u8], words: &[u32]) -> io::Result<()> {
     let p = interpreter::play(text, words);
     let scalars = p.config.scalars;
     say(rt, case, " ")?;
-    say(rt, p.number as u64, " ")?;
-    say(rt, p.line as u64, " ")?;
-    say(rt, p.calls as u64, " ")?;
-    say(rt, p.made as u64, " ")?;
-    say(rt, p.gone as u64, "  ")?;
+    match p.worked {
+        Ok(worked) => {
+            print!(rt; "0 0 ")?;
+            say(rt, worked.calls as u64, " ")?;
+            say(rt, worked.made as u64, " ")?;
+            say(rt, worked.gone as u64, "  ")?;
+        }
+        Err(error) => {
+            say(rt, error.refusal.number() as u64, " ")?;
+            say(rt, error.line as u64, " 0 0 0  ")?;
+        }
+    }
     say(rt, scalars.phase as u64, " ")?;
     say(rt, scalars.cycle as u64, " ")?;
     say(rt, scalars.atoms as u64, " ")?;
@@ -298,11 +290,13 @@ fn plays(rt: &impl Print) -> io::Result<()> {
 
 fn main(rt: HostRuntime) -> io::Result<()> {
     let mut rows = [0u32; 4096];
-    let r = loading::load(
+    let mut config = Config::fresh();
+    let loaded = loading::load(
         b"set rule part op i p a b\n0 0 0 40 0 1 4095 2\n1 1 1 1 -1 1 -2 -3\n1 1 3 36 -9 3 -2 -3\n1 1 3 31 0 9 -2 -3\n",
         &mut rows,
-        Config::fresh(),
+        &mut config,
     );
-    first(&rt, rows, r.rows as usize * 8)?;
+    let n = loaded.unwrap_or(0) as usize * 8;
+    calls(&rt, &rows[..n.min(4096)])?;
     plays(&rt)
 }

@@ -3,12 +3,12 @@ use mathlib.Core.Path.{◌≡◌, refl, sym, ap, ◌∙◌, subst}
 use mathlib.Core.Bool.{Bool, true, false}
 use mathlib.Core.List.{List, [], ◌∷◌, ◌++◌, append_assoc}
 use mathlib.Core.Logic.{⊎_elim, ◌≢◌}
-use Prim.Native.Nat.{ℕ, zero, suc, ◌+◌, ◌<◌, ◌≤◌}
+use Prim.Native.Nat.{ℕ, zero, suc, ◌+◌, ◌-◌, ◌<◌, ◌≤◌}
 use native.Mathlib.Omega.{arith}
 use lib.ListN.{length, get_or, drop}
 use Rattle.lists.specs.Tables.{tabulate, keep_by}
 use Rattle.lists.proofs.Bind.{append-nil}
-use Rattle.lists.proofs.Tables.{equal_or_not, less_or_more, tabulate_same, keep_by_nil, keep_by_more}
+use Rattle.lists.proofs.Tables.{equal_or_not, tabulate_same, keep_by_nil, keep_by_more}
 use Rattle.model.specs.declared.Atom.{Atom}
 use Rattle.state.specs.View.{atom_p, atom_a, atom_b, atom_cycle, plans_at, atom_at, atoms_of}
 use Rattle.state.proofs.Made.{plans_stand}
@@ -79,6 +79,9 @@ keep_run ms f i (suc m) h t =
     ∙ ap (λ (l : List _). l ++ (f (i + m) ∷ [])) (keep_run ms f i m (omega arith) (λ k p q. t k p (omega arith)))
     ∙ append_assoc (keep_by ms (tabulate i f)) (tabulate m (λ (k : ℕ). f (i + k))) (f (i + m) ∷ [])
 
+run_true : (ms : List Bool) (i r : ℕ) → get_or ms i false ≡ true → ((k : ℕ) → i + 1 ≤ k → k < r → get_or ms k false ≡ true) → (k : ℕ) → i ≤ k → k < r → get_or ms k false ≡ true
+run_true ms i r f t k p q = ⊎_elim (λ (z : k ≡ i). rw z f) (λ (ne : k ≢ i). t k (omega arith) q) (equal_or_not k i)
+
 -- the first i atoms are compacted into the first j
 pub record Compacted (ms : List Bool) (W X : List ℕ) (i j : ℕ) : Type 0 where
   pub long : length X ≡ length W
@@ -111,15 +114,16 @@ module _ (ms : List Bool) (W : List ℕ) where
     behind = c.behind;
   }
 
-  pub compacted_run : (X Y : List ℕ) (i j m : ℕ) → i + m ≤ length ms → i + m ≤ 256 → ((k : ℕ) → i ≤ k → k < i + m → get_or ms k false ≡ true) → Compacted ms W X i j → AtomsMoved X i j m Y → Compacted ms W Y (i + m) (j + m)
-  compacted_run X Y i j m h few t c a = let g = c.count in record {
+  pub compacted_run : (X Y : List ℕ) (i j r : ℕ) → i < r → r ≤ length ms → r ≤ 256 → get_or ms i false ≡ true → ((k : ℕ) → i + 1 ≤ k → k < r → get_or ms k false ≡ true) →
+      Compacted ms W X i j → AtomsMoved X i j (r - i) Y → Compacted ms W Y r (j + (r - i))
+  compacted_run X Y i j r low h few t ts c a = let g = c.count in let m : ℕ = r - i in let e : i + (r - i) ≡ r = omega arith in record {
     long = a.long ∙ c.long;
     count = omega arith;
     front =
         tabulate_two (atom_at Y) j m
         ∙ ap (λ (l : List Atom). l ++ tabulate m (λ (k : ℕ). atom_at Y (j + k))) (tabulate_same j (atom_at Y) (atom_at X) (λ k p. a.below k p) ∙ c.front)
         ∙ ap (λ (l : List Atom). keep_by ms (tabulate i (atom_at W)) ++ l) (tabulate_same m (λ (k : ℕ). atom_at Y (j + k)) (λ (k : ℕ). atom_at W (i + k)) (λ k p. a.here k p ∙ c.rest (i + k) (omega arith) (omega arith)))
-        ∙ sym (keep_run ms (atom_at W) i m h t);
+        ∙ sym (ap (λ (q : ℕ). keep_by ms (tabulate q (atom_at W))) (sym e) ∙ keep_run ms (atom_at W) i m (omega arith) (λ k p q. run_true ms i r t ts k p (omega arith)));
     rest = λ k p q. a.above k (omega arith) q ∙ c.rest k (omega arith) q;
     behind = a.behind ∙ c.behind;
   }
@@ -130,11 +134,5 @@ five_moved W0 W1 W2 W3 W4 W5 from to n h few m0 m1 m2 m3 m4 =
     let z : to ≡ 0 + to = omega arith in
     columns_moved W0 W1 W2 W3 W4 W5 from to n h few (subst (λ (q : ℕ). Moved W0 (0 + from) q n W1) z (subst (λ (q : ℕ). Moved W0 q to n W1) y m0)) m1 m2 m3 m4
 
-pub run_true : (ms : List Bool) (i r n : ℕ) → n ≡ r → get_or ms i false ≡ true → ((k : ℕ) → i + 1 ≤ k → k < r → get_or ms k false ≡ true) → (k : ℕ) → i ≤ k → k < n → get_or ms k false ≡ true
-run_true ms i r n e f t k p q = ⊎_elim (λ (z : k ≡ i). subst (λ (m : ℕ). get_or ms m false ≡ true) (sym z) f) (λ (ne : k ≢ i). t k (more ne) (omega arith)) (equal_or_not k i)
-  where
-    more : k ≢ i → i + 1 ≤ k
-    more ne = ⊎_elim (λ (z : k < i). absurd (omega arith)) (λ (z : i < k). omega arith) (less_or_more k i ne)
-
 -- what `keep_atoms` rests on
-pub ruleset compacting = (compacted_first, compacted_gone, compacted_run, run_true, plans_stand)
+pub ruleset compacting = (compacted_first, compacted_gone, compacted_run, plans_stand)

@@ -82,6 +82,7 @@ marked_like place n ids D E left same m k hk = m k hk ∙ ap not (same (ids k))
 
 -- the marks after i plans
 pub record Passed (W : List ℕ) (s : Scalars) (t i : ℕ) (left : List Bool) : Type 0 where
+  pub long : length left ≡ 320
   pub marked : Marked W s (gone_after W t i) left
   pub above : (x : ℕ) → In x (gone_after W t i) → t ≤ x
 
@@ -202,21 +203,20 @@ module _ (W : List ℕ) (s : Scalars) (h : SoundWords W s) where
         (test (ltb at_plan s.plans))
 
   -- no mark is cleared yet
-  pub marked_none : (left : List Bool) → length left ≡ 320 → ((k : ℕ) → k < 320 → get_or left k false ≡ true) → Marked W s [] left
-  marked_none left long all =
+  marked_none : (left : List Bool) → ((k : ℕ) → k < 320 → get_or left k false ≡ true) → Marked W s [] left
+  marked_none left all =
       let fa = h.few_atoms in
       let fp = h.few_plans in
-      record { long = long; atoms = λ k hk. all k (omega arith); plans = λ k hk. all (256 + k) (omega arith) }
+      record { atoms = λ k hk. all k (omega arith); plans = λ k hk. all (256 + k) (omega arith) }
 
   -- the target's mark is cleared
-  pub marked_target : (t : ℕ) (left : List Bool) → Marked W s [] left → Marked W s (t ∷ []) (without_plan W s.plans t (without_atom W s.atoms t left))
-  marked_target t left m =
+  marked_target : (t : ℕ) (left : List Bool) → length left ≡ 320 → Marked W s [] left → Marked W s (t ∷ []) (without_plan W s.plans t (without_atom W s.atoms t left))
+  marked_target t left long m =
       let one : List Bool = without_atom W s.atoms t left in
-      let long : length one ≡ 320 = atom_long [] left t m.long in
+      let still : length one ≡ 320 = atom_long [] left t long in
       record {
-        long = plan_long [] one t long;
-        atoms = atoms_stay (t ∷ []) one t long (atom_cleared [] left t m.long m.atoms);
-        plans = plan_cleared [] one t long (plans_stay [] left t m.long m.plans);
+        atoms = atoms_stay (t ∷ []) one t still (atom_cleared [] left t long m.atoms);
+        plans = plan_cleared [] one t still (plans_stay [] left t long m.plans);
       }
 
   -- a subgoal goes too, if there is one
@@ -229,23 +229,21 @@ module _ (W : List ℕ) (s : Scalars) (h : SoundWords W s) where
   plans_too E left (suc x) none m = marked_other (λ k. 256 + k) s.plans plan_id E left m (suc x) none
 
   -- plan i goes, and its subgoal with it
-  marked_goes : (D : List ℕ) (left : List Bool) (i : ℕ) → i < s.plans → Marked W s D left →
+  marked_goes : (D : List ℕ) (left : List Bool) (i : ℕ) → length left ≡ 320 → i < s.plans → Marked W s D left →
       Marked W s (visit_if true (node (plan_at W i)) D) (without_atom W s.atoms (plan_at W i).subgoal (set left (256 + i) false))
-  marked_goes D left i hi m =
+  marked_goes D left i long hi m =
       let x : ℕ = (plan_at W i).subgoal in
       let E : List ℕ = plan_id i ∷ D in
       let one : List Bool = set left (256 + i) false in
       let two : List Bool = without_atom W s.atoms x one in
       let fa = h.few_atoms in
       let fp = h.few_plans in
-      let lm = m.long in
-      let long : length one ≡ 320 = length-set left (256 + i) false ∙ m.long in
+      let still : length one ≡ 320 = length-set left (256 + i) false ∙ long in
       let a : AtomsMarked E one = marked_other (λ k. k) s.atoms atom_id D one (marked_elsewhere (λ k. k) s.atoms atom_id D left m.atoms (256 + i) (λ k hk q. omega arith)) (plan_id i) (atom_no_plan i hi) in
       let p : PlansMarked E one = marked_cleared (λ k. 256 + k) s.plans plan_id D left m.plans plans_differ (λ i k ne q. ne (omega arith)) i hi (omega arith) in
       record {
-        long = atom_long E one x long;
-        atoms = atoms_too E two x (atom_cleared E one x long a);
-        plans = plans_too E two x (plan_no_subgoal i hi) (plans_stay E one x long p);
+        atoms = atoms_too E two x (atom_cleared E one x still a);
+        plans = plans_too E two x (plan_no_subgoal i hi) (plans_stay E one x still p);
       }
 
   -- where an atom stands
@@ -345,9 +343,9 @@ module _ (W : List ℕ) (s : Scalars) (h : SoundWords W s) where
   unfolding gone_after
   gone_more t i = rw (add-one, map_append node (plans_of i W) (plan_at W i ∷ [])) (pass_snoc (map node (plans_of i W)) (node (plan_at W i)) (t ∷ []))
 
-  pub passed_none : (t : ℕ) (left : List Bool) → Marked W s [] left → Passed W s t 0 (without_plan W s.plans t (without_atom W s.atoms t left))
+  pub passed_none : (t : ℕ) (left : List Bool) → length left ≡ 320 → ((k : ℕ) → k < 320 → get_or left k false ≡ true) → Passed W s t 0 (without_plan W s.plans t (without_atom W s.atoms t left))
   unfolding gone_after
-  passed_none t left m = record { marked = marked_target t left m; above = λ x k. let e = in_one k in omega arith }
+  passed_none t left long all = record { long = plan_long [] (without_atom W s.atoms t left) t (atom_long [] left t long); marked = marked_target t left long (marked_none left all); above = λ x k. let e = in_one k in omega arith }
 
   pub passed_more : (t i : ℕ) (left : List Bool) → i < s.plans → Passed W s t i left → Passed W s t (i + 1) (visited W s.atoms t i left)
   unfolding visited
@@ -369,24 +367,28 @@ module _ (W : List ℕ) (s : Scalars) (h : SoundWords W s) where
       marks b = if b then without_atom W s.atoms (plan_at W i).subgoal (set left (256 + i) false) else left
 
       marked_more : (b : Bool) → Marked W s (visit_if b (node (plan_at W i)) D) (marks b)
-      marked_more true = marked_goes D left i hi p.marked
+      marked_more true = marked_goes D left i p.long hi p.marked
       marked_more false = p.marked
 
+      long_still : (b : Bool) → length (marks b) ≡ 320
+      long_still true = atom_long [] (set left (256 + i) false) (plan_at W i).subgoal (length-set left (256 + i) false ∙ p.long)
+      long_still false = p.long
+
       at : (b : Bool) → plan_goes W s.atoms t left i ≡ b → Passed W s t (i + 1) (marks b)
-      at b e = record { marked = rw (gone_is_now b e) (marked_more b); above = rw (gone_is_now b e) (above_more b e) }
+      at b e = record { long = long_still b; marked = rw (gone_is_now b e) (marked_more b); above = rw (gone_is_now b e) (above_more b e) }
 
   -- after all plans the marks tell what the model's deletion leaves
-  pub passed_all : (t i : ℕ) (left : List Bool) → i ≡ s.plans → Passed W s t i left → Marked W s (reached (links_in c) t) left
+  pub passed_all : (t i : ℕ) (left : List Bool) → i ≤ s.plans → s.plans ≤ i → Passed W s t i left → Marked W s (reached (links_in c) t) left
   unfolding gone_after
-  passed_all t i left all p =
+  passed_all t i left low high p =
+      let all : i ≡ s.plans = omega arith in
       let D : List ℕ = gone_after W t i in
       let same : (x : ℕ) → member x D ≡ member x (reached (links_in c) t) =
       λ x. ap (λ (n : ℕ). member x (pass (map node (plans_of n W)) (t ∷ []))) all ∙ pass_sweeps (map node c.plans) (t ∷ []) x in
       record {
-        long = p.marked.long;
         atoms = marked_like (λ k. k) s.atoms atom_id D (reached (links_in c) t) left same p.marked.atoms;
         plans = marked_like (λ k. 256 + k) s.plans plan_id D (reached (links_in c) t) left same p.marked.plans;
       }
 
 -- what `mark` rests on
-pub ruleset marking = (sound_atoms_rise, sound_plans_rise, marked_none, passed_none, passed_more, passed_all)
+pub ruleset marking = (sound_atoms_rise, sound_plans_rise, passed_none, passed_more, passed_all)

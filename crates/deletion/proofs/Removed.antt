@@ -4,25 +4,24 @@ use mathlib.Core.Path.{◌≡◌, refl, ap, sym, ◌∙◌, subst}
 use mathlib.Core.Bool.{Bool, true, false, not, ◌&&◌}
 use mathlib.Core.List.{List, map}
 use mathlib.Core.Logic.{⊎_elim, ◌≢◌}
-use Prim.Native.Nat.{ℕ, ◌+◌, ◌-◌, ◌≤◌}
+use Prim.Native.Nat.{ℕ, ◌-◌, ◌≤◌}
 use native.Mathlib.Omega.{arith}
 use lib.Dec.{eqb}
-use lib.ListN.{length, drop, length-drop, length-map}
+use lib.ListN.{length, drop, length-drop}
 use lib.Seq.{get_or-drop}
 use borrow.Author.Tests.{eq-eqb, ne_eqb, not-true}
 use Rattle.lists.specs.Lists.{In, keep, bit, member}
 use Rattle.lists.specs.Tables.{keep_by}
 use Rattle.lists.proofs.Lists.{in_map, in_cast, in_member, out_member, member_out, keep_in}
-use Rattle.lists.proofs.Tables.{equal_or_not, tabulate_length, map_same_in, map_keep_by, keep_by_test}
-use Rattle.model.specs.Graph.{Graph, Reach, here, onward, reached, survives, loses_subgoal, choose, Sound}
-use Rattle.model.specs.Events.{deletion, change, gone_by}
+use Rattle.lists.proofs.Tables.{equal_or_not, map_same_in, map_keep_by, keep_by_test}
+use Rattle.model.specs.Graph.{Reach, here, onward, reached, survives, loses_subgoal, choose, Sound}
+use Rattle.model.specs.Events.{deletion}
 use Rattle.model.specs.declared.Atom.{Atom}
 use Rattle.model.specs.Configuration.{Plan, Config}
 use Rattle.model.specs.Deletion.{node, graph, links_in, plan_without, remove}
 use Rattle.graph_laws.proofs.Links.{owner_of, reached_is}
 use Rattle.graph_laws.proofs.Keeps.{keeps, loses_member, loses_zero}
 use Rattle.graph_laws.proofs.Turns.{turns_remove}
-use Rattle.graph_laws.proofs.Count.{change_size}
 use Rattle.state.specs.declared.Scalars.{Scalars}
 use Rattle.state.specs.View.{atom_at, plan_at, atoms_of, plans_of, config_of, SoundWords, counts_put}
 use Rattle.state.proofs.Made.{config_path}
@@ -90,9 +89,9 @@ module _ (W : List ℕ) (s : Scalars) (h : SoundWords W s) (t : ℕ) where
   unfolding unlinked_from
   without_is q i e = sym (left_as (loses_subgoal D q.subgoal) q ∙ ap (λ (b : Bool). if b then subgoal_lost q else q) (loses_is q i e))
 
-  module _ (left : List Bool) (m : Marked W s D left) where
+  module _ (left : List Bool) (long : length left ≡ 320) (m : Marked W s D left) where
     atoms_left : keep_by left (atoms_of s.atoms W) ≡ keep (λ (x : Atom). survives D x.id) (atoms_of s.atoms W)
-    atoms_left = keep_by_test left (λ (x : Atom). survives D x.id) (atom_at W) s.atoms (omega (arith, m.long, h.few_atoms)) m.atoms
+    atoms_left = keep_by_test left (λ (x : Atom). survives D x.id) (atom_at W) s.atoms (omega (arith, h.few_atoms)) m.atoms
 
     plans_left : keep_by (drop 256 left) (map (unlinked_from t) (plans_of s.plans W)) ≡ map (plan_without D) (keep (λ (q : Plan). survives D q.id) (plans_of s.plans W))
     plans_left =
@@ -100,25 +99,14 @@ module _ (W : List ℕ) (s : Scalars) (h : SoundWords W s) (t : ℕ) where
         let alive : Plan → Bool = λ q. survives D q.id in
         let z : length (drop 256 left) ≡ length left - 256 = length-drop 256 left in
         sym (map_keep_by (unlinked_from t) (drop 256 left) ps)
-        ∙ ap (map (unlinked_from t)) (keep_by_test (drop 256 left) alive (plan_at W) s.plans (omega (arith, m.long, h.few_plans)) (λ k hk. get_or-drop 256 left k false ∙ m.plans k hk))
+        ∙ ap (map (unlinked_from t)) (keep_by_test (drop 256 left) alive (plan_at W) s.plans (omega (arith, h.few_plans)) (λ k hk. get_or-drop 256 left k false ∙ m.plans k hk))
         ∙ map_same_in (unlinked_from t) (plan_without D) (keep alive ps) (λ q i. let r = keep_in alive ps i in without_is q r.0 r.1)
 
     module _ (X : List ℕ) (n p : ℕ) (atoms : atoms_of n X ≡ keep_by left (atoms_of s.atoms W)) (plans : plans_of p X ≡ keep_by (drop 256 left) (map (unlinked_from t) (plans_of s.plans W))) where
       pub removed : config_of X (counts_put n p s) ≡ remove t c
       removed = config_path s s.next (atoms ∙ atoms_left) (plans ∙ plans_left) refl
 
-      pub counted : n ≤ s.atoms → p ≤ s.plans → (s.atoms - n) + (s.plans - p) ≡ gone_by (graph c) (deletion t)
-      counted hn hp =
-          let g : graph (config_of X (counts_put n p s)) ≡ change (graph c) (deletion t) = ap graph removed ∙ turns_remove t c in
-          let a : n ≡ length (change (graph c) (deletion t)).atoms = sym (length-map (atoms_of n X) (λ (x : Atom). x.id) ∙ tabulate_length n (atom_at X)) ∙ ap (λ (k : Graph). length k.atoms) g in
-          let b : p ≡ length (change (graph c) (deletion t)).plans = sym (length-map (plans_of p X) node ∙ tabulate_length p (plan_at X)) ∙ ap (λ (k : Graph). length k.plans) g in
-          let d : length (graph c).atoms ≡ s.atoms = length-map (atoms_of s.atoms W) (λ (x : Atom). x.id) ∙ tabulate_length s.atoms (atom_at W) in
-          let e : length (graph c).plans ≡ s.plans = length-map (plans_of s.plans W) node ∙ tabulate_length s.plans (plan_at W) in
-          sums n (length (change (graph c) (deletion t)).atoms) p (length (change (graph c) (deletion t)).plans) (gone_by (graph c) (deletion t)) (length (graph c).atoms) s.atoms (length (graph c).plans) s.plans a b d e (change_size (graph c) (deletion t)) hn hp
-        where
-          sums : (n x p y g u a v b : ℕ) → n ≡ x → p ≡ y → u ≡ a → v ≡ b → x + y + g ≡ u + v + 0 → n ≤ a → p ≤ b → (a - n) + (b - p) ≡ g
-          sums n x p y g u a v b e1 e2 e3 e4 e5 h1 h2 = omega arith
-
       -- what is left is sound
-      pub left_sound : length X ≡ 2432 → n ≤ 256 → p ≤ 64 → SoundWords X (counts_put n p s)
-      left_sound l hn hp = record { long = l; few_atoms = hn; few_plans = hp; sound = subst Sound (sym (ap graph removed ∙ turns_remove t c)) (keeps (graph c) (deletion t) h.sound tt) }
+      pub left_sound : (r : Scalars) → r ≡ counts_put n p s → n ≤ s.atoms → p ≤ s.plans → SoundWords X r
+      left_sound r e hn hp =
+          rw e record { few_atoms = omega (arith, h.few_atoms); few_plans = omega (arith, h.few_plans); sound = subst Sound (sym (ap graph removed ∙ turns_remove t c)) (keeps (graph c) (deletion t) h.sound tt) }

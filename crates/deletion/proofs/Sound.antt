@@ -16,11 +16,10 @@ use Rattle.graph_laws.proofs.Count.{change_size}
 use Rattle.state.specs.declared.Scalars.{Scalars}
 use Rattle.state.specs.View.{atom_at, plan_at, config_of, SoundWords, atom_counted}
 
-module _ (words words' : List ℕ) (s s' : Scalars) (r : SoundWords words s) (l : length words' ≡ 2432) where
+module _ (words words' : List ℕ) (s s' : Scalars) (r : SoundWords words s) where
   -- an atom was made
   pub sound_added : (p a b : ℕ) → s.atoms < 256 → s' ≡ atom_counted s → config_of words' s' ≡ add_atom p a b (config_of words s) → SoundWords words' s'
   sound_added p a b h q e = record {
-    long = l;
     few_atoms = let z : s'.atoms ≡ s.atoms + 1 = ap (λ (x : Scalars). x.atoms) q in omega arith;
     few_plans = let z : s'.plans ≡ s.plans = ap (λ (x : Scalars). x.plans) q in omega (arith, r.few_plans);
     sound = subst Sound (sym (ap graph e ∙ turns_atom p a b (config_of words s))) (keeps (graph (config_of words s)) atom_made r.sound tt);
@@ -28,7 +27,7 @@ module _ (words words' : List ℕ) (s s' : Scalars) (r : SoundWords words s) (l 
 
   -- the graph is what it was
   pub sound_still : s'.atoms ≡ s.atoms → s'.plans ≡ s.plans → graph (config_of words' s') ≡ graph (config_of words s) → SoundWords words' s'
-  sound_still h k e = record { long = l; few_atoms = omega (arith, r.few_atoms); few_plans = omega (arith, r.few_plans); sound = subst Sound (sym e) r.sound }
+  sound_still h k e = record { few_atoms = omega (arith, r.few_atoms); few_plans = omega (arith, r.few_plans); sound = subst Sound (sym e) r.sound }
 
 -- an instance was deleted: nothing but what went is missing
 module _ (words words' : List ℕ) (s s' : Scalars) (t : ℕ) (e : config_of words' s' ≡ remove t (config_of words s)) where

@@ -7,6 +7,7 @@ use mathlib.Core.Logic.{◌⊎◌, inl, inr, ⊎_elim, ◌≢◌}
 use Prim.Native.Nat.{ℕ, ◌-◌, ◌<◌, ◌≤◌}
 use native.Mathlib.Omega.{arith}
 use lib.Dec.{eqb}
+use lib.ListN.{length}
 use borrow.Author.Tests.{eq-eqb, ne_eqb}
 use Rattle.std.specs.Prelude.{Option, MatchOption, Some, None}
 use Rattle.lists.specs.Tables.{tabulate, index_of, PlaceOf}
@@ -55,7 +56,7 @@ pub no_owner : (n : ℕ) (W : List ℕ) (t k : ℕ) → index_of t (subgoals_of 
 no_owner n W t k e h = unlinked_by n W W t (λ i hi. sym (other_stands t (plan_at W i) (inr (index_missing n (λ (k : ℕ). (plan_at W k).subgoal) t (rw (subgoals_are n W, e) h) i hi))))
 
 -- two words of the owner are changed
-module _ (W : List ℕ) (s : Scalars) (h : SoundWords W s) (t k v : ℕ) (some : t ≢ 0) (found : k ≡ index_of t (subgoals_of s.plans W)) (there : k < s.plans) (less : v ≡ (plan_at W k).left - 1) where
+module _ (W : List ℕ) (s : Scalars) (long : length W ≡ 2432) (h : SoundWords W s) (t k v : ℕ) (some : t ≢ 0) (found : k ≡ index_of t (subgoals_of s.plans W)) (there : k < s.plans) (less : v ≡ (plan_at W k).left - 1) where
   abbrev shorter : List ℕ
   shorter = with_plan_word W k 3 v
 
@@ -71,7 +72,7 @@ module _ (W : List ℕ) (s : Scalars) (h : SoundWords W s) (t k v : ℕ) (some :
   few = omega (arith, h.few_plans)
 
   here : plan_at after k ≡ subgoal_lost (plan_at W k)
-  here = subgoal_put shorter k (with_plan_word_long W k 3 v ∙ h.long) few 0 ∙ ap (with_subgoal 0) (left_put W k h.long few v less)
+  here = subgoal_put shorter k (with_plan_word_long W k 3 v ∙ long) few 0 ∙ ap (with_subgoal 0) (left_put W k long few v less)
 
   elsewhere : (i : ℕ) → i ≢ k → plan_at after i ≡ plan_at W i
   elsewhere i ne = plan_word_there shorter k 5 0 (omega arith) i ne ∙ plan_word_there W k 3 v (omega arith) i ne

@@ -1,5 +1,5 @@
 -- Marks on the places of both tables: true for what is left. Those of the atoms stand from 0 on, those of the plans from 256 on.
-use Rattle.std.specs.Prelude.{◌≡◌, Bool, false, not, ◌&&◌, ◌||◌, List, [], ◌∷◌, map, ℕ, ◌+◌, ◌<◌, leb, ltb, eqb, length, get_or, set, if◌then◌else◌}
+use Rattle.std.specs.Prelude.{◌≡◌, Bool, false, not, ◌&&◌, ◌||◌, List, [], ◌∷◌, map, ℕ, ◌+◌, ◌<◌, leb, ltb, eqb, get_or, set, if◌then◌else◌}
 use Rattle.lists.specs.Tables.{index_of}
 use Rattle.model.specs.Graph.{survives}
 use Rattle.model.specs.Configuration.{Plan, step_removed, with_subgoal}
@@ -14,7 +14,6 @@ MarkedAt place n ids D left = (k : ℕ) → k < n → get_or left (place k) fals
 
 -- the marks tell what is left of the configuration once D is gone
 pub record Marked (words : List ℕ) (s : Scalars) (D : List ℕ) (left : List Bool) : Type 0 where
-  pub long : length left ≡ 320
   pub atoms : MarkedAt (λ k. k) s.atoms (λ k. (atom_at words k).id) D left
   pub plans : MarkedAt (λ k. 256 + k) s.plans (λ k. (plan_at words k).id) D left
 

@@ -10,7 +10,10 @@ ghost use Rattle.state.specs.View.{atoms_of, plans_of, config_of, atom_ids_of, A
 ghost use Rattle.deletion.specs.Marks.{Marked, without_atom, without_plan, atom_gone, plan_goes, visited, unlinked_from, subgoals_of};
 ghost use Rattle.deletion.specs.Moves.{Moved, AtomsMoved};
 
-use state::Scalars;
+use state::{Scalars, Words};
+
+// A mark for each place of both tables: 256 of atoms, then 64 of plans.
+type Marks = [bool; 320];
 
 // The scalars afterwards, and how many instances went.
 #[derive(Clone, Copy)]
@@ -28,8 +31,8 @@ pub struct Near {
 
 // The atom with this id is left no more. Where it stands, by a guess.
 #[tactic(auto, unfolding(crate::specs::Marks::without_atom))]
-fn mark_atom(words: &[u32], atoms: u32, left: &mut [bool], id: u32, guess: usize) -> usize
-    requires { (length words.now ≡ 2432) × (atoms ≤ 256) × AtomsRise atoms words.now × (length left.old ≡ 320) }
+fn mark_atom(words: &Words, atoms: u32, left: &mut Marks, id: u32, guess: usize) -> usize
+    requires { (atoms ≤ 256) × AtomsRise atoms words.now }
     ensures { left.new ≡ without_atom words.now atoms id left.old }
 {
     let Some(k) = state::find_near(words, atoms, id, guess) else {
@@ -41,8 +44,8 @@ fn mark_atom(words: &[u32], atoms: u32, left: &mut [bool], id: u32, guess: usize
 
 // The plan with this id is left no more.
 #[tactic(auto, unfolding(crate::specs::Marks::without_plan))]
-fn mark_plan(words: &[u32], plans: u32, left: &mut [bool], id: u32)
-    requires { (length words.now ≡ 2432) × (plans ≤ 64) × PlansRise plans words.now × (length left.old ≡ 320) }
+fn mark_plan(words: &Words, plans: u32, left: &mut Marks, id: u32)
+    requires { (plans ≤ 64) × PlansRise plans words.now }
     ensures { left.new ≡ without_plan words.now plans id left.old }
 {
     if let Some(k) = state::find_plan(words, plans, id) {
@@ -52,8 +55,8 @@ fn mark_plan(words: &[u32], plans: u32, left: &mut [bool], id: u32)
 
 // Whether the atom with this id is gone. Nothing made before the target is.
 #[tactic(auto, unfolding(crate::specs::Marks::atom_gone))]
-fn atom_gone(words: &[u32], atoms: u32, target: u32, left: &[bool], id: u32, guess: usize) -> bool
-    requires { (length words.now ≡ 2432) × (atoms ≤ 256) × AtomsRise atoms words.now × (length left.now ≡ 320) }
+fn atom_gone(words: &Words, atoms: u32, target: u32, left: &Marks, id: u32, guess: usize) -> bool
+    requires { (atoms ≤ 256) × AtomsRise atoms words.now }
     ensures { result ≡ atom_gone words.now atoms target left.now id }
 {
     if id < target {
@@ -67,8 +70,8 @@ fn atom_gone(words: &[u32], atoms: u32, target: u32, left: &[bool], id: u32, gue
 
 // Whether plan i goes: it is the target, or one of its justifications is gone. Most that go have the first where it is guessed.
 #[tactic(auto, unfolding(crate::specs::Marks::plan_goes))]
-fn plan_goes(words: &[u32], atoms: u32, target: u32, left: &[bool], i: usize, guess: usize) -> bool
-    requires { (length words.now ≡ 2432) × (atoms ≤ 256) × AtomsRise atoms words.now × (length left.now ≡ 320) × (i < 64) }
+fn plan_goes(words: &Words, atoms: u32, target: u32, left: &Marks, i: usize, guess: usize) -> bool
+    requires { (atoms ≤ 256) × AtomsRise atoms words.now × (i < 64) }
     ensures { result ≡ plan_goes words.now atoms target left.now i }
 {
     if state::plan_id(words, i) < target {
@@ -95,8 +98,8 @@ fn plan_goes(words: &[u32], atoms: u32, target: u32, left: &[bool], i: usize, gu
 
 // Plan i goes or stays; if it goes, its subgoal goes with it.
 #[tactic(auto, unfolding(crate::specs::Marks::visited))]
-fn visit(words: &[u32], atoms: u32, target: u32, left: &mut [bool], i: usize, near: Near) -> Near
-    requires { (length words.now ≡ 2432) × (atoms ≤ 256) × AtomsRise atoms words.now × (length left.old ≡ 320) × (i < 64) }
+fn visit(words: &Words, atoms: u32, target: u32, left: &mut Marks, i: usize, near: Near) -> Near
+    requires { (atoms ≤ 256) × AtomsRise atoms words.now × (i < 64) }
     ensures { left.new ≡ visited words.now atoms target i left.old }
 {
     if !plan_goes(words, atoms, target, left, i, near.first) {
@@ -112,8 +115,8 @@ fn visit(words: &[u32], atoms: u32, target: u32, left: &mut [bool], i: usize, ne
 
 // What the target reaches is left no more: the target itself, then plan by plan in rising id.
 #[tactic(auto, using(crate::proofs::Pass::marking))]
-fn mark(words: &[u32], scalars: Scalars, target: u32, left: &mut [bool])
-    requires { SoundWords words.now scalars × (length left.old ≡ 320) × ((k : ℕ) → k < 320 → get_or left.old k false ≡ true) }
+fn mark(words: &Words, scalars: Scalars, target: u32, left: &mut Marks)
+    requires { SoundWords words.now scalars × ((k : ℕ) → k < 320 → get_or left.old k false ≡ true) }
     ensures { Marked words.now scalars (reached (links_in (config_of words.now scalars)) target) left.new }
 {
     let place = mark_atom(words, scalars.atoms, left, target, 0);
@@ -128,8 +131,8 @@ fn mark(words: &[u32], scalars: Scalars, target: u32, left: &mut [bool])
 }
 
 // Where the first plan stands whose subgoal is the target, if there is one.
-fn find_owner(words: &[u32], plans: u32, target: u32) -> Option<usize>
-    requires { (length words.now ≡ 2432) × (plans ≤ 64) }
+fn find_owner(words: &Words, plans: u32, target: u32) -> Option<usize>
+    requires { plans ≤ 64 }
     ensures { PlaceOf plans target (subgoals_of plans words.now) result }
 {
     (0..plans as usize).find(|k| state::plan_subgoal(words, *k) == target)
@@ -137,7 +140,7 @@ fn find_owner(words: &[u32], plans: u32, target: u32) -> Option<usize>
 
 // The plan whose subgoal is the target loses it, and its first step. No other surviving plan loses its subgoal.
 #[tactic(auto, using(crate::proofs::Unlinked::unlinking))]
-fn unlink(words: &mut [u32], scalars: Scalars, target: u32)
+fn unlink(words: &mut Words, scalars: Scalars, target: u32)
     requires { SoundWords words.old scalars }
     ensures atoms { atoms_of scalars.atoms words.new ≡ atoms_of scalars.atoms words.old }
     ensures plans { plans_of scalars.plans words.new ≡ map (unlinked_from target) (plans_of scalars.plans words.old) }
@@ -153,7 +156,7 @@ fn unlink(words: &mut [u32], scalars: Scalars, target: u32)
 }
 
 // Some words, from `from` on, go down to `to`.
-fn move_down(words: &mut [u32], from: usize, to: usize, n: usize)
+fn move_down(words: &mut Words, from: usize, to: usize, n: usize)
     requires { (to ≤ from) × (from + n ≤ length words.old) }
     ensures { Moved words.old from to n words.new }
 {
@@ -161,8 +164,9 @@ fn move_down(words: &mut [u32], from: usize, to: usize, n: usize)
 }
 
 // A run of atoms goes down, column by column.
-fn move_atoms(words: &mut [u32], from: usize, to: usize, n: usize)
-    requires { (length words.old ≡ 2432) × (to ≤ from) × (from + n ≤ 256) }
+#[tactic(auto, using(crate::proofs::Moves::five_moved))]
+fn move_atoms(words: &mut Words, from: usize, to: usize, n: usize)
+    requires { (to ≤ from) × (from + n ≤ 256) }
     ensures { AtomsMoved words.old from to n words.new }
 {
     move_down(words, from, to, n);
@@ -213,8 +217,8 @@ fn run_end(left: &[bool], from: usize, n: usize) -> usize
 
 // The atoms that are left, in their order; their number. The plans stand. Runs are moved whole.
 #[tactic(auto, using(crate::proofs::Moves::compacting))]
-fn keep_atoms(words: &mut [u32], atoms: u32, left: &[bool]) -> u32
-    requires { (length words.old ≡ 2432) × (atoms ≤ 256) × (length left.now ≡ 320) }
+fn keep_atoms(words: &mut Words, atoms: u32, left: &Marks) -> u32
+    requires { atoms ≤ 256 }
     ensures kept { (result ≤ atoms) × (atoms_of result words.new ≡ keep_by left.now (atoms_of atoms words.old)) }
     ensures plans { (m : ℕ) → plans_of m words.new ≡ plans_of m words.old }
 {
@@ -237,8 +241,8 @@ fn keep_atoms(words: &mut [u32], atoms: u32, left: &[bool]) -> u32
 
 // The plans that are left, in their order; their number. The atoms stand.
 #[tactic(auto, using(crate::proofs::Kept::plans_kept, state::proofs::Made::atoms_stand))]
-fn keep_plans(words: &mut [u32], plans: u32, left: &[bool]) -> u32
-    requires { (length words.old ≡ 2432) × (plans ≤ 64) × (length left.now ≡ 320) }
+fn keep_plans(words: &mut Words, plans: u32, left: &Marks) -> u32
+    requires { plans ≤ 64 }
     ensures kept { (result ≤ plans) × (plans_of result words.new ≡ keep_by (drop 256 left.now) (plans_of plans words.old)) }
     ensures atoms { (n : ℕ) → n ≤ 256 → atoms_of n words.new ≡ atoms_of n words.old }
 {
@@ -251,7 +255,8 @@ fn keep_plans(words: &mut [u32], plans: u32, left: &[bool]) -> u32
 }
 
 // "Deleting a target removes exactly the instances reached from it by zero or more links, and every link with an end among them."
-pub fn remove(words: &mut [u32], scalars: Scalars, target: u32) -> Removal
+#[tactic(auto, using(crate::proofs::Removed::left_sound, crate::proofs::Removed::removed))]
+pub fn remove(words: &mut Words, scalars: Scalars, target: u32) -> Removal
     requires { SoundWords words.old scalars }
     ensures sound { SoundWords words.new result.scalars }
     ensures removed { config_of words.new result.scalars ≡ remove target (config_of words.old scalars) }

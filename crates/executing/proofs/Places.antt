@@ -1,8 +1,10 @@
--- Lists asked place by place: what a loop that counts up has passed, the first element that passes a test, and what it decides.
+-- A list by its places: the first element that passes a test, whether some element does, and what the first one decides.
+use Rattle.std.specs.Prelude.{Option, Some, None, MatchOption, option_map, option_to_list}
+use Rattle.std.specs.List.{range_with_len, list_any}
 use mathlib.Core.Path.{◌≡◌, refl, sym, ap, ◌∙◌, subst}
 use mathlib.Core.Bool.{Bool, true, false, ◌||◌}
 use mathlib.Core.List.{List, [], ◌∷◌}
-use Prim.Native.Nat.{ℕ, ◌+◌, ◌<◌, ◌≤◌}
+use Prim.Native.Nat.{ℕ, zero, suc, ◌+◌, ◌<◌, ◌≤◌}
 use native.Mathlib.Omega.{arith}
 use lib.ListN.{length, drop, drop_of_length-le}
 use Rattle.lists.specs.Lists.{In, first, put, keep, first_of, is_empty, some}
@@ -15,26 +17,29 @@ module _ {A : Type 0} (f : A → Bool) (n : ℕ) (g : ℕ → A) where
   drop_past : (k : ℕ) → n ≤ k → drop k (tabulate n g) ≡ []
   drop_past k h = let z : length (tabulate n g) ≡ n = tabulate_length n g in drop_of_length-le (tabulate n g) {i = k} (omega arith)
 
-  pub keep_skip : (k : ℕ) → k < n → f (g k) ≡ false → keep f (drop k (tabulate n g)) ≡ keep f (drop (k + 1) (tabulate n g))
-  keep_skip k h e = ap (keep f) (tabulate_from n g k h) ∙ ap (λ (b : Bool). put b (g k) (keep f (drop (k + 1) (tabulate n g)))) e
+  -- none before place k passes
+  keep_from : (k : ℕ) → k ≤ n → ((i : ℕ) → i < k → f (g i) ≡ false) → keep f (tabulate n g) ≡ keep f (drop k (tabulate n g))
+  keep_from zero h none = refl
+  keep_from (suc k) h none =
+      let e : k + 1 ≡ suc k = omega arith in
+      keep_from k (omega arith) (λ i p. none i (omega arith))
+      ∙ ap (keep f) (tabulate_from n g k (omega arith)) ∙ ap (λ (b : Bool). put b (g k) (keep f (drop (k + 1) (tabulate n g)))) (none k (omega arith))
+      ∙ ap (λ (m : ℕ). keep f (drop m (tabulate n g))) e
 
-  pub keep_hit : (k : ℕ) → k < n → f (g k) ≡ true → first_of (keep f (drop k (tabulate n g))) ≡ g k ∷ []
-  keep_hit k h e = ap (λ (l : List A). first_of (keep f l)) (tabulate_from n g k h) ∙ ap (λ (b : Bool). first_of (put b (g k) (keep f (drop (k + 1) (tabulate n g))))) e
+  -- a search of the places found the first that passes
+  pub first_kept : (r : Option ℕ) →
+      MatchOption r ((k : ℕ) → 0 ≤ k → k < n → f (g k) ≡ false) (λ i. (0 ≤ i) × (i < n) × (f (g i) ≡ true) × ((k : ℕ) → 0 ≤ k → k < i → f (g k) ≡ false)) →
+      first_of (keep f (tabulate n g)) ≡ option_to_list (option_map g r)
+  first_kept None none = ap first_of (keep_from n (omega arith) (λ k p. none k (omega arith) p) ∙ ap (keep f) (drop_past n (omega arith)))
+  first_kept (Some i) h =
+      ap first_of (keep_from i (omega (arith, h.1)) (λ k p. h.3 k (omega arith) p) ∙ ap (keep f) (tabulate_from n g i h.1))
+      ∙ ap (λ (b : Bool). first_of (put b (g i) (keep f (drop (i + 1) (tabulate n g))))) h.2
 
-  pub keep_end : (k : ℕ) → n ≤ k → keep f (drop k (tabulate n g)) ≡ []
-  keep_end k h = ap (keep f) (drop_past k h)
-
-  pub some_skip : (k : ℕ) → k < n → f (g k) ≡ false → some f (drop k (tabulate n g)) ≡ some f (drop (k + 1) (tabulate n g))
+  -- a test of the places from k on tests the elements from there on
+  pub some_from : (m k : ℕ) → k + m ≡ n → list_any (λ (i : ℕ). f (g i)) (range_with_len k m) ≡ some f (drop k (tabulate n g))
   unfolding some
-  some_skip k h e = ap (some f) (tabulate_from n g k h) ∙ ap (λ (b : Bool). b || some f (drop (k + 1) (tabulate n g))) e
-
-  pub some_hit : (k : ℕ) → k < n → f (g k) ≡ true → some f (drop k (tabulate n g)) ≡ true
-  unfolding some
-  some_hit k h e = ap (some f) (tabulate_from n g k h) ∙ ap (λ (b : Bool). b || some f (drop (k + 1) (tabulate n g))) e
-
-  pub some_end : (k : ℕ) → n ≤ k → some f (drop k (tabulate n g)) ≡ false
-  unfolding some
-  some_end k h = ap (some f) (drop_past k h)
+  some_from zero k e = sym (ap (some f) (drop_past k (omega arith)))
+  some_from (suc m) k e = ap (λ (b : Bool). f (g k) || b) (some_from m (k + 1) (omega arith)) ∙ sym (ap (some f) (tabulate_from n g k (omega arith)))
 
 -- a function of lists, where the first element is known, or that there is none
 module _ {A B : Type 0} (F : List A → B) (l : List A) where

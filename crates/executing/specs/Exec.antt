@@ -1,5 +1,5 @@
 -- What the exec phase asks of the words, and the parts of a step.
-use Rattle.std.specs.Prelude.{List, ℕ, ◌<◌, ◌≤◌, if◌then◌else◌}
+use Rattle.std.specs.Prelude.{Bool, List, ℕ, ◌<◌, ◌≤◌, if◌then◌else◌}
 use Rattle.model.specs.Configuration.{last_next, scheduled, stepped, without_flag, atom_alive}
 use Rattle.model.specs.Log.{done, executed, Log, emit_subgoal, emit_deletion, quiet, report, Outcome, accepted, and_then}
 use Rattle.model.specs.Calls.{room_for_atom, set_stepped, succeed, fail}
@@ -24,6 +24,10 @@ pub record Due (words : List ℕ) (s : Scalars) (k : ℕ) : Type 0 where
 -- "35": of plan k, on the atom t
 abbrev pub delete_step : ℕ → ℕ → Log → Outcome
 delete_step k t L = if atom_alive L.config t then and_then (succeed k L) (λ M. accepted (emit_deletion t M)) else fail k L
+
+-- "32", "33": of plan k, by whether what it tests holds
+abbrev pub tested_step : ℕ → Bool → Log → Outcome
+tested_step k holds L = if holds then succeed k L else fail k L
 
 -- "36": of plan k, for p(a, b)
 abbrev pub subgoal_step : ℕ → ℕ → ℕ → ℕ → Log → Outcome

@@ -142,6 +142,7 @@ pub fn explain(text: &[u8]) -> Explained
     let mut s = rows::at_first();
     let mut ceilings = [0u8; 256];
     let mut at = first + 1;
+    // kept: no plainer otherwise. The place goes on behind the line that was read.
     while at < text.len() {
         let end = text::newline(text, at);
         if text.len() <= end {

@@ -7,7 +7,7 @@ use mathlib.Core.List.{List, []}
 use Prim.Native.Nat.{ℕ, ◌+◌, ◌%◌, ◌≤◌, ◌<◌}
 use native.Mathlib.Omega.{arith}
 use lib.Dec.{eqb, ltb}
-use lib.ListN.{length, get_or, set, length-set}
+use lib.ListN.{length, get_or, set}
 use lib.Seq.{get_or-set_same, get_or-set_other}
 use borrow.Author.Tests.{eqb-true, eqb-false, ltb-true, ltb-false}
 use Rattle.lists.proofs.Lists.{test}
@@ -24,18 +24,18 @@ use Rattle.queries.proofs.Eights.{not_standing}
 use Rattle.filters.specs.Filters.{size, place_of, Marked, Barred}
 
 -- no atom yet
-pub marked_none : (words filter : List ℕ) → length filter ≡ size → Marked words 0 filter
-marked_none words filter e = record { long = e; marks = λ k h. absurd (omega arith) }
+pub marked_none : (words filter : List ℕ) → Marked words 0 filter
+marked_none words filter = record { marks = λ k h. absurd (omega arith) }
 
 -- the mark of one more atom
-pub marked_more : (words : List ℕ) (k : ℕ) (filter : List ℕ) (x : Atom) (at : ℕ) → Marked words k filter → x ≡ atom_at words k → at ≡ place_of x.p x.a x.b → at < size → Marked words (k + 1) (set filter at 1)
-marked_more words k filter x at m e h low = record { long = length-set filter at 1 ∙ m.long; marks = marks }
+pub marked_more : (words : List ℕ) (k : ℕ) (filter : List ℕ) (x : Atom) (at : ℕ) → length filter ≡ size → Marked words k filter → x ≡ atom_at words k → at ≡ place_of x.p x.a x.b → at < size → Marked words (k + 1) (set filter at 1)
+marked_more words k filter x at long m e h low = record { marks = marks }
   where
     place : ℕ → ℕ
     place j = place_of (atom_at words j).p (atom_at words j).a (atom_at words j).b
 
     inside : at < length filter
-    inside = let l = m.long in omega arith
+    inside = omega arith
 
     here : (j : ℕ) → place j ≡ at → get_or (set filter at 1) (place j) 0 ≡ 1
     here j q = ap (λ (n : ℕ). get_or (set filter at 1) n 0) q ∙ get_or-set_same filter at 1 0 inside

@@ -1,5 +1,5 @@
 -- What a filter says: where no mark stands, no live atom has that predicate with those arguments.
-use Rattle.std.specs.Prelude.{◌≡◌, List, Some, ℕ, ◌+◌, ◌*◌, ◌%◌, ◌<◌, length, get_or}
+use Rattle.std.specs.Prelude.{◌≡◌, List, Some, ℕ, ◌+◌, ◌*◌, ◌%◌, ◌<◌, get_or}
 use Rattle.model.specs.declared.Row.{Row}
 use Rattle.state.specs.View.{atom_at}
 use Rattle.queries.specs.View.{Wants}
@@ -13,7 +13,6 @@ place_of p a b = (p % size * 37 + a % size * 61 + b % size * 5) % size
 
 -- a mark stands at the place of each of the first n atoms
 pub record Marked (words : List ℕ) (n : ℕ) (filter : List ℕ) : Type 0 where
-  pub long : length filter ≡ size
   pub marks : (k : ℕ) → k < n → get_or filter (place_of (atom_at words k).p (atom_at words k).a (atom_at words k).b) 0 ≡ 1
 
 -- a positive query for an atom whose arguments are both known, and no mark stands at its place

@@ -1,13 +1,13 @@
 // Which atoms there may be: a mark at a place that p, a and b give. A long search leaves a row at once that no atom can fit.
 #![tactic(auto)]
 
-ghost use Rattle.std.specs.Prelude.{◌≡◌, true, ◌+◌, ◌<◌, ◌≤◌, length};
-ghost use Rattle.queries.specs.View.{found_in, Limits, room, Sized, Kept};
+ghost use Rattle.std.specs.Prelude.{◌≡◌, true, ◌+◌, ◌<◌, ◌≤◌};
+ghost use Rattle.queries.specs.View.{found_in, Limits, room, Kept};
 ghost use Rattle.queries.specs.Answers.{answers, width, given_ids, Next};
 ghost use Rattle.filters.specs.Filters.{place_of, Marked, Barred};
 
 use model::Row;
-use state::Scalars;
+use state::{Scalars, Words};
 
 // How many places a filter has.
 pub const SIZE: usize = 4096;
@@ -21,8 +21,9 @@ fn place(p: u32, a: u32, b: u32) -> usize
 }
 
 // The filter of the live atoms.
-pub fn of_atoms(words: &[u32], atoms: u32) -> [u8; SIZE]
-    requires { (length words.now ≡ 2432) × (atoms ≤ 256) }
+#[tactic(auto, using(crate::proofs::Laws::marked_more))]
+pub fn of_atoms(words: &Words, atoms: u32) -> [u8; SIZE]
+    requires { atoms ≤ 256 }
     ensures { Marked words.now atoms result }
 {
     let n = atoms as usize;
@@ -36,8 +37,7 @@ pub fn of_atoms(words: &[u32], atoms: u32) -> [u8; SIZE]
 }
 
 // No atom can fit: the row asks for one, both its arguments are known, and none is marked there.
-pub fn is_barred<'a>(filter: &'a [u8], r: Row, values: &'a [u32]) -> bool
-    requires { (length filter.now ≡ 4096) × (length values.now ≡ 8) }
+pub fn is_barred<'a>(filter: &'a [u8; SIZE], r: Row, values: &'a [u32; 8]) -> bool
     ensures { result ≡ true → Barred filter.now r values.now }
 {
     if r.op != 1 {
@@ -54,8 +54,9 @@ pub fn is_barred<'a>(filter: &'a [u8], r: Row, values: &'a [u32]) -> bool
 }
 
 // What a row gives, as `queries::next_answer` says it; a row that is barred has no answer, and no atom is looked at.
+#[tactic(auto, using(crate::proofs::Laws::barred_none))]
 pub fn next_answer<'a>(
-    words: &'a [u32],
+    words: &'a Words,
     s: Scalars,
     r: Row,
     c: usize,
@@ -63,10 +64,9 @@ pub fn next_answer<'a>(
     count: usize,
     values: &mut [u32; 8],
     matched: &mut [u32; 4],
-    filter: &'a [u8],
+    filter: &'a [u8; SIZE],
 ) -> Option<usize>
-    requires { Limits words.now s × (room r count ≤ 4) × Sized values.old matched.old × (values.old ≡ before) × Marked words.now s.atoms filter.now }
-    ensures sized { Sized values.new matched.new }
+    requires { Limits words.now s × (room r count ≤ 4) × (values.old ≡ before) × Marked words.now s.atoms filter.now }
     ensures is { Next (answers words.now s r (found_in before matched.old count)) c (width s r) (found_in values.new matched.new (count + given_ids r)) result }
     ensures back { result ≡ None → values.new ≡ before }
     ensures kept { Kept count matched.old matched.new }

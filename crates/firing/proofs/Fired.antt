@@ -1,5 +1,5 @@
 -- The choice of the rule, and what the model makes of it.
-use Rattle.std.specs.Prelude.{if◌then◌else◌}
+use Rattle.std.specs.Prelude.{if◌then◌else◌, Ok}
 use mathlib.Core.Path.{◌≡◌, refl, sym, ap, ◌∙◌, subst}
 use mathlib.Core.Bool.{Bool, true, false}
 use mathlib.Core.List.{List, [], ◌∷◌}
@@ -37,7 +37,7 @@ justified_in f j i = rising_set_in f.matched j i
 pub well_limits : (program words : List ℕ) (s : Scalars) → WellWords program words s → Limits words s
 well_limits program words s w =
     let h = whole program words s w in
-    record { long = h.long; atoms = h.few_atoms; plans = h.few_plans; flags = flags_fit program words s w; atoms_rise = sound_atoms_rise words s h.sound; plans_rise = sound_plans_rise words s h.sound }
+    record { atoms = h.few_atoms; plans = h.few_plans; flags = flags_fit program words s w; atoms_rise = sound_atoms_rise words s h.sound; plans_rise = sound_plans_rise words s h.sound }
 
 module _ (program words : List ℕ) (s : Scalars) where
   abbrev P : List Row
@@ -48,9 +48,9 @@ module _ (program words : List ℕ) (s : Scalars) where
 
   -- no rule has a match
   pub moved : [] ≡ firing P C s.phase → (s' : Scalars) → s' ≡ phase_put (s.phase + 1) s →
-      answered_by s.next words (record { scalars = s'; gone = 0; number = 0; did = MovedOn }) ≡ answer_of C (fire_first P C (firing P C s.phase))
+      answered_by s words (Ok (record { scalars = s'; gone = 0; did = MovedOn })) ≡ answer_of C (fire_first P C (firing P C s.phase))
   unfolding fire_first answer_of
-  moved is s' e = ap (λ (t : Scalars). answered_by s.next words (record { scalars = t; gone = 0; number = 0; did = MovedOn })) e ∙ ap (λ (l : List Firing). answer_of C (fire_first P C l)) is
+  moved is s' e = ap (λ (t : Scalars). answered_by s words (Ok (record { scalars = t; gone = 0; did = MovedOn }))) e ∙ ap (λ (l : List Firing). answer_of C (fire_first P C l)) is
 
   module _ (x : Choice) (is : choice_of x ∷ [] ≡ firing P C s.phase) (h : Chosen program s.phase x) where
     abbrev n : ℕ

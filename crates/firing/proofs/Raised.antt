@@ -1,11 +1,13 @@
 -- A plan raised, and a refusal, as the model answers them.
+use Rattle.std.specs.Prelude.{Ok, Err}
 use mathlib.Core.Path.{◌≡◌, refl, ap, ◌∙◌, subst}
 use mathlib.Core.List.{List}
-use mathlib.Core.Logic.{◌≢◌}
 use Prim.Native.Nat.{ℕ, ◌-◌}
 use lib.ListN.{take}
 use Rattle.lists.specs.Lists.{In, rising_set}
 use Rattle.lists.specs.Tables.{trimmed}
+use Rattle.model.specs.declared.refusal.Refusal.{Refusal}
+use Rattle.model.specs.Refusals.{number_of}
 use Rattle.model.specs.Configuration.{Config, add_plan}
 use Rattle.model.specs.Matching.{justifications_of}
 use Rattle.model.specs.Log.{begin, answer_of, fired, a_plan}
@@ -17,8 +19,7 @@ use Rattle.matching.specs.declared.Choice.{Choice}
 use Rattle.matching.specs.declared.Ids.{Ids}
 use Rattle.matching.specs.Rules.{ids_of, Padded}
 use Rattle.matching.proofs.Plans.{ids_trimmed}
-use Rattle.stepping.specs.declared.Progress.{Progress}
-use Rattle.stepping.specs.declared.Did.TheVariants.{Refused, Fired}
+use Rattle.stepping.specs.declared.Did.TheVariants.{Fired}
 use Rattle.stepping.specs.declared.Made.TheVariants.{Plan}
 use Rattle.stepping.specs.Steps.{answered_by}
 use Rattle.stepping.proofs.Room.{plan_barred, plan_free}
@@ -29,9 +30,9 @@ module _ (words : List ℕ) (s : Scalars) (x : Choice) where
   abbrev C : Config
   C = config_of words s
 
-  pub raised_barred : (n : ℕ) → plan_bar s.next s.plans ≡ n → n ≢ 0 → (r : Progress) → r ≡ record { scalars = s; gone = 0; number = n; did = Refused } → answered_by s.next words r ≡ answer_of C (raised x (begin C))
+  pub raised_barred : (e : Refusal) → plan_bar s.next s.plans ≡ number_of e → answered_by s words (Err e) ≡ answer_of C (raised x (begin C))
   unfolding raised
-  raised_barred n b h r e = answers_refused words s n r _ e (plan_barred (begin C) _ n (plans_of_bar words s ∙ b) h)
+  raised_barred e b = answers_refused words s e _ (plan_barred (begin C) _ e (plans_of_bar words s ∙ b))
 
   -- the ids as a plan holds them
   pub ids_raised : Raises words s x → (l : Ids) → Padded l → ids_of l ≡ rising_set (take x.bindings.count x.bindings.matched) → trimmed l.ids ≡ justifications_of (found_of x.bindings)
@@ -40,7 +41,7 @@ module _ (words : List ℕ) (s : Scalars) (x : Choice) where
 
   pub raised_done : plan_bar s.next s.plans ≡ 0 → (words' : List ℕ) (s' : Scalars) (js : List ℕ) → js ≡ justifications_of (found_of x.bindings) →
       config_of words' s' ≡ add_plan x.rule.set x.rule.number x.bindings.values (x.rule.end - x.rule.body) js C →
-      answered_by s.next words' (record { scalars = s'; gone = 0; number = 0; did = Fired x.rule.set x.rule.number (Plan s.next) }) ≡ answer_of C (raised x (begin C))
+      answered_by s words' (Ok (record { scalars = s'; gone = 0; did = Fired x.rule.set x.rule.number (Plan s.next) })) ≡ answer_of C (raised x (begin C))
   unfolding raised justifications_of
   raised_done b words' s' js f e =
       let d : config_of words' s' ≡ add_plan x.rule.set x.rule.number x.bindings.values (x.rule.end - x.rule.body) (justifications_of (found_of x.bindings)) C =

@@ -142,10 +142,17 @@ module _ (program : List Row) (W : List ℕ) (s : Scalars) where
   pub clauses : config_formed program c ≡ limits_hold (sets program + 1) s && (atoms_pass && (plans_pass && (apart_pass && waiting_formed program c)))
   clauses = same_truth to from
 
+-- what the limits say
+module _ (exec : ℕ) (s : Scalars) (h : limits_hold exec s ≡ true) where
+  pub few_atoms : s.atoms ≤ 256
+  few_atoms = leb-true s.atoms 256 ((and-eq-true_iff (leb s.atoms 256) _).0 h).0
+
+  pub few_plans : s.plans ≤ 64
+  few_plans = leb-true s.plans 64 ((and-eq-true_iff (leb s.plans 64) _).0 ((and-eq-true_iff (leb s.atoms 256) _).0 h).1).0
+
 -- what a pass leaves to those after it
-pub atoms_stand : (W : List ℕ) (n next : ℕ) → length W ≡ 2432 → n ≤ 256 → in_order atom_id (atom_fits next) (atoms_of n W) ≡ true → AtomsStand W n
-atoms_stand W n next long few e = record {
-  long = long;
+pub atoms_stand : (W : List ℕ) (n next : ℕ) → n ≤ 256 → in_order atom_id (atom_fits next) (atoms_of n W) ≡ true → AtomsStand W n
+atoms_stand W n next few e = record {
   few = few;
   rise = map_pairs (λ (x y : ℕ). x < y) atom_id (atoms_of n W) (in_order_rises atom_id (atom_fits next) (atoms_of n W) e);
   no_zero = out_member 0 (atom_ids_of n W) (λ i.

@@ -14,7 +14,7 @@ ghost use Rattle.formed.specs.Passes.{in_order, atom_id, plan_id, atom_fits, Sub
 
 use formed_plans::Near;
 use model::Atom;
-use state::{Config, Scalars};
+use state::{Config, Scalars, Words};
 
 // The atom is below the next id and within its limits.
 #[tactic(auto, unfolding(model::specs::WellFormed::atom_formed))]
@@ -27,8 +27,8 @@ fn atom_fits(x: Atom, next: u32) -> bool
 
 // The atoms' ids rise from 1 on, and each atom fits.
 #[tactic(auto, using(crate::proofs::Passes::testing))]
-fn atoms_formed(words: &[u32], atoms: u32, next: u32) -> bool
-    requires { (length words.now ≡ 2432) × (atoms ≤ 256) }
+fn atoms_formed(words: &Words, atoms: u32, next: u32) -> bool
+    requires { atoms ≤ 256 }
     ensures { result ≡ in_order atom_id (atom_fits next) (atoms_of atoms words.now) }
 {
     let mut fits = true;
@@ -43,7 +43,7 @@ fn atoms_formed(words: &[u32], atoms: u32, next: u32) -> bool
 
 // The plans' ids rise from 1 on, and each plan fits.
 #[tactic(auto, using(crate::proofs::Passes::passing))]
-fn plans_formed(program: &[u32], words: &[u32], scalars: Scalars) -> bool
+fn plans_formed(program: &[u32], words: &Words, scalars: Scalars) -> bool
     requires { AtomsStand words.now scalars.atoms × (scalars.plans ≤ 64) × Pairs NotLater (rows_of program.now) }
     ensures { result ≡ in_order plan_id (plan_fits (rows_of program.now) (config_of words.now scalars)) (plans_of scalars.plans words.now) }
 {
@@ -83,7 +83,7 @@ fn plans_formed(program: &[u32], words: &[u32], scalars: Scalars) -> bool
 
 // "no atom is the subgoal of two plans": a mark at each atom that is one.
 #[tactic(auto, using(crate::proofs::Apart::marking))]
-fn subgoals_differ(words: &[u32], atoms: u32, plans: u32) -> bool
+fn subgoals_differ(words: &Words, atoms: u32, plans: u32) -> bool
     requires { AtomsStand words.now atoms × (plans ≤ 64) × SubgoalsAlive atoms plans words.now }
     ensures { result ≡ subgoals_differ (map node (plans_of plans words.now)) }
 {
@@ -107,8 +107,8 @@ fn subgoals_differ(words: &[u32], atoms: u32, plans: u32) -> bool
 
 // "a waiting plan is alive, in exec phase, with an external action first"
 #[tactic(auto, unfolding(model::specs::WellFormed::waiting_formed), using(crate::proofs::Waiting::waiting_found, crate::proofs::Waiting::waiting_absent))]
-fn waiting_formed(program: &[u32], words: &[u32], scalars: Scalars, exec: u32) -> bool
-    requires { (length words.now ≡ 2432) × (scalars.plans ≤ 64) × PlansRise scalars.plans words.now × Pairs NotLater (rows_of program.now) × (exec ≡ sets (rows_of program.now) + 1) }
+fn waiting_formed(program: &[u32], words: &Words, scalars: Scalars, exec: u32) -> bool
+    requires { (scalars.plans ≤ 64) × PlansRise scalars.plans words.now × Pairs NotLater (rows_of program.now) × (exec ≡ sets (rows_of program.now) + 1) }
     ensures { result ≡ waiting_formed (rows_of program.now) (config_of words.now scalars) }
 {
     let waiting = scalars.waiting;
@@ -151,8 +151,9 @@ fn limits_hold(scalars: Scalars, exec: u32) -> bool
 }
 
 // "A configuration is [well formed] when ..": every clause of the paper, for a program that is well formed.
-pub fn config_formed(program: &[u32], words: &[u32], scalars: Scalars) -> bool
-    requires { (length words.now ≡ 2432) × Lawful (rows_of program.now) }
+#[tactic(auto, using(crate::proofs::Clauses::clauses, crate::proofs::Clauses::few_atoms, crate::proofs::Clauses::few_plans, crate::proofs::Clauses::atoms_stand, crate::proofs::Clauses::plans_rise, crate::proofs::Clauses::subgoals_alive, program_laws::proofs::Sets::sets_few))]
+pub fn config_formed(program: &[u32], words: &Words, scalars: Scalars) -> bool
+    requires { Lawful (rows_of program.now) }
     ensures { result ≡ config_formed (rows_of program.now) (config_of words.now scalars) }
 {
     let exec = sets_of(program) + 1;

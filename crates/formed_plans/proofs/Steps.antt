@@ -1,6 +1,6 @@
--- A rule with reasons; the test of a step that may not be there; a plan's subgoal is the atom that stands where it is found.
-use mathlib.Core.Path.{◌≡◌, sym, ap, ◌∙◌}
-use mathlib.Core.Bool.{Bool, false, not, ◌&&◌, and-false, or-false}
+-- A rule with reasons; a plan's subgoal is the atom that stands where it is found.
+use mathlib.Core.Path.{◌≡◌, sym, ap}
+use mathlib.Core.Bool.{false, not, ◌&&◌, and-false}
 use mathlib.Core.List.{List, [], ◌∷◌}
 use Prim.Native.Nat.{ℕ, ◌-◌, ◌≤◌, ◌<◌}
 use native.Mathlib.Omega.{arith}
@@ -21,15 +21,6 @@ use Rattle.program.specs.Rows.{row_at, rows_of, rows_from}
 use Rattle.state.specs.declared.Scalars.{Scalars}
 use Rattle.state.specs.View.{atom_at, atoms_of, config_of, atom_ids_of}
 use Rattle.formed_plans.specs.Plans.{AtomsStand}
-
--- a step is there, and is tested; or none is
-pub some_step : (f : Row → Bool) (r : Row) (l : List Row) → r ∷ [] ≡ l → f r ≡ some f l
-unfolding some
-some_step f r l e = sym (or-false (f r)) ∙ ap (some f) e
-
-pub no_step : (f : Row → Bool) (l : List Row) → [] ≡ l → false ≡ some f l
-unfolding some
-no_step f l e = ap (some f) e
 
 -- a rule with reasons is an object rule
 pub object_is : (P : List ℕ) (s n a b : ℕ) → rows_from P a (b - a) ≡ part_of (rows_of P) s n 1 → ltb a b ≡ is_object (rows_of P) s n

@@ -6,7 +6,7 @@ use mathlib.Core.List.{List, [], map}
 use Prim.Native.Nat.{ℕ, zero, suc, ◌+◌, ◌-◌, ◌≤◌, ◌<◌}
 use native.Mathlib.Omega.{arith}
 use lib.Dec.{leb, eqb}
-use lib.ListN.{length, get_or, set, replicate, length-set, get_or-replicate}
+use lib.ListN.{length, get_or, set, replicate, get_or-replicate}
 use lib.Seq.{get_or-set_same, get_or-set_other}
 use borrow.Author.Tests.{eqb-true, eqb-false, le-leb, lt-leb, leb-true, leb-false}
 use Rattle.lists.specs.Lists.{every, count_up}
@@ -55,16 +55,15 @@ one_lower x m h k = at (eqb x no_value) refl
         (λ l. let n = leb-false x 65535 l in let a : leb x m ≡ false = lt-leb x m (omega arith) in rw (l, a))
         (test (leb x 65535))
 
-module _ (limits : List ℕ) (w : Limits limits) (x : ℕ) (low : 1 ≤ x) (high : x ≤ 8) where
+module _ (limits : List ℕ) (long : length limits ≡ 8) (w : Limits limits) (x : ℕ) (low : 1 ≤ x) (high : x ≤ 8) where
   abbrev lowered : List ℕ
   lowered = set limits (8 - x) 65535
 
   lowered_at : get_or lowered (8 - x) 0 ≡ 65535
-  lowered_at = let l = w.long in get_or-set_same limits (8 - x) 65535 0 (omega arith)
+  lowered_at = get_or-set_same limits (8 - x) 65535 0 (omega arith)
 
   pub demanded_bounds : Limits (set limits (8 - x) 65535)
   demanded_bounds = record {
-    long = length-set limits (8 - x) 65535 ∙ w.long;
     low = λ i h. ⊎_elim
         (λ e. let z = ap (λ (n : ℕ). get_or lowered n 0) e in let y = lowered_at in omega arith)
         (λ e. let z = get_or-set_other limits (8 - x) i 65535 0 e in let y = w.low i h in omega arith)
@@ -94,7 +93,6 @@ regroup a b c d e = simp and_assoc
 -- before any row
 pub limits_start : Limits (replicate 8 no_value)
 limits_start = record {
-  long = refl;
   low = λ i h. let e = get_or-replicate 8 i no_value 0 h in omega arith;
   high = λ i h. let e = get_or-replicate 8 i no_value 0 h in omega arith;
 }

@@ -14,8 +14,9 @@ use Rattle.lists.proofs.Lists.{map_in, out_member}
 use Rattle.lists.proofs.Tables.{tabulate_get, tabulate_length, tabulate_at, in_get, pairs_get, equal_or_not}
 use Rattle.lists.proofs.Counted.{trimmed_few}
 use Rattle.model.specs.declared.Atom.{Atom}
-use Rattle.state.specs.View.{atom_at, atoms_of, atom_ids_of}
-use Rattle.formed_plans.specs.Plans.{AtomsStand, may_follow, justified}
+use Rattle.state.specs.View.{atom_at, plan_at, atoms_of, atom_ids_of}
+use Rattle.state.proofs.View.{justification_words}
+use Rattle.formed_plans.specs.Plans.{AtomsStand, alive_below, may_follow, justified}
 
 middle_swap : (a b c d : Bool) → (a && b) && (c && d) ≡ (a && c) && (b && d)
 middle_swap true true c d = refl
@@ -79,6 +80,19 @@ module _ (alive : ℕ → Bool) where
       ap (λ (b : Bool). alive (get_or js 0 0) && (may_follow alive (get_or js 0 0) (get_or js 1 0) && (may_follow alive (get_or js 1 0) (get_or js 2 0) && b))) (sym (and-true (may_follow alive (get_or js 2 0) (get_or js 3 0))))
       ∙ four_justified z (get_or js 0 0) (get_or js 1 0 ∷ get_or js 2 0 ∷ get_or js 3 0 ∷ []) (omega arith)
       ∙ ap (λ (l : List ℕ). justified alive (trimmed l)) (tabulate_get 4 js 0 h)
+
+-- those of plan k of some words
+pub plan_justified : (W : List ℕ) (n k : ℕ) → length W ≡ 2432 → k < 64 → AtomsStand W n →
+    let ids = atom_ids_of n W in
+    let id = (plan_at W k).id in
+    let js = (plan_at W k).justifications in
+    let alive = alive_below ids id in
+    alive (get_or js 0 0) && (may_follow alive (get_or js 0 0) (get_or js 1 0) && (may_follow alive (get_or js 1 0) (get_or js 2 0) && may_follow alive (get_or js 2 0) (get_or js 3 0))) ≡ justified alive js
+plan_justified W n k long few w =
+    let js = (plan_at W k).justifications in
+    let alive = alive_below (atom_ids_of n W) (plan_at W k).id in
+    let z = w.no_zero in
+    words_justified alive (rw z) (get_or js 0 0 ∷ get_or js 1 0 ∷ get_or js 2 0 ∷ get_or js 3 0 ∷ []) refl ∙ ap (justified alive) (justification_words W k long few)
 
 -- as many ids as atoms
 pub atom_ids_long : (words : List ℕ) (n : ℕ) → length (atom_ids_of n words) ≡ n

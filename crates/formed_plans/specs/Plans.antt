@@ -12,7 +12,6 @@ use Rattle.formed_plans.specs.declared.Clauses.{Clauses}
 
 -- the atoms as the first pass leaves them: within their limit, their ids rising from 1 on
 pub record AtomsStand (words : List ℕ) (atoms : ℕ) : Type 0 where
-  pub long : length words ≡ 2432
   pub few : atoms ≤ 256
   pub rise : AtomsRise atoms words
   pub no_zero : member 0 (atom_ids_of atoms words) ≡ false
@@ -50,7 +49,6 @@ within_limits limits values = every (λ (i : ℕ). leb (get_or values i no_value
 
 -- limits of eight values, each that of a value or of none
 pub record Limits (limits : List ℕ) : Type 0 where
-  pub long : length limits ≡ 8
   pub low : (i : ℕ) → i < 8 → 65535 ≤ get_or limits i 0
   pub high : (i : ℕ) → i < 8 → get_or limits i 0 ≤ no_value
 

@@ -14,7 +14,7 @@ ghost use Rattle.formed_plans.specs.Plans.{within_limits, Limits, Demanded, Limi
 
 use model::Row;
 use spans::Span;
-use state::Scalars;
+use state::{Scalars, Words};
 
 // Where the atoms of a plan's links are looked for first: any numbers will do, and those of the plan before it are near most often.
 #[derive(Clone, Copy)]
@@ -29,7 +29,7 @@ pub struct Near {
 
 // The id is above that of every atom, as a plan's often is.
 #[tactic(auto, using(crate::proofs::Words::past_absent))]
-fn is_past(words: &[u32], atoms: u32, id: u32) -> bool
+fn is_past(words: &Words, atoms: u32, id: u32) -> bool
     requires { AtomsStand words.now atoms }
     ensures { result ≡ true → member id (atom_ids_of atoms words.now) ≡ false }
 {
@@ -42,7 +42,7 @@ fn is_past(words: &[u32], atoms: u32, id: u32) -> bool
 }
 
 // No atom has this id.
-fn is_fresh(words: &[u32], atoms: u32, id: u32, guess: usize) -> bool
+fn is_fresh(words: &Words, atoms: u32, id: u32, guess: usize) -> bool
     requires { AtomsStand words.now atoms }
     ensures { result ≡ not (member id (atom_ids_of atoms words.now)) }
 {
@@ -53,9 +53,10 @@ fn is_fresh(words: &[u32], atoms: u32, id: u32, guess: usize) -> bool
 }
 
 // Where the atom before this id stands, if there is one behind it.
-fn place_of(words: &[u32], atoms: u32, id: u32, guess: usize) -> usize
+fn place_of(words: &Words, atoms: u32, id: u32, guess: usize) -> usize
     requires { AtomsStand words.now atoms }
 {
+    // kept: no plainer otherwise. `is_fresh` tells and this guesses for a later call; one for both would give each caller a half to drop.
     if is_past(words, atoms, id) {
         return guess;
     }
@@ -63,7 +64,7 @@ fn place_of(words: &[u32], atoms: u32, id: u32, guess: usize) -> usize
 }
 
 // Where the atom with this id stands, if there may be one.
-fn near_to(words: &[u32], atoms: u32, id: u32, guess: usize) -> usize
+fn near_to(words: &Words, atoms: u32, id: u32, guess: usize) -> usize
     requires { AtomsStand words.now atoms }
 {
     if id == 0 {
@@ -72,7 +73,7 @@ fn near_to(words: &[u32], atoms: u32, id: u32, guess: usize) -> usize
     state::find_near(words, atoms, id, guess).unwrap_or(guess)
 }
 
-pub fn near_of(words: &[u32], atoms: u32, k: usize, near: Near) -> Near
+pub fn near_of(words: &Words, atoms: u32, k: usize, near: Near) -> Near
     requires { AtomsStand words.now atoms × (k < 64) }
 {
     let id = state::plan_id(words, k);
@@ -99,7 +100,7 @@ pub fn near_of(words: &[u32], atoms: u32, k: usize, near: Near) -> Near
 
 // An atom with this id lives.
 #[tactic(auto, using(state::proofs::Near::found_is))]
-fn is_atom(words: &[u32], atoms: u32, id: u32, guess: usize) -> bool
+fn is_atom(words: &Words, atoms: u32, id: u32, guess: usize) -> bool
     requires { AtomsStand words.now atoms }
     ensures { result ≡ member id (atom_ids_of atoms words.now) }
 {
@@ -107,7 +108,7 @@ fn is_atom(words: &[u32], atoms: u32, id: u32, guess: usize) -> bool
 }
 
 // Word j may stand behind word i among the justifications of the plan with this id.
-fn may_follow(words: &[u32], atoms: u32, id: u32, i: u32, j: u32, guess: usize) -> bool
+fn may_follow(words: &Words, atoms: u32, id: u32, i: u32, j: u32, guess: usize) -> bool
     requires { AtomsStand words.now atoms }
     ensures { result ≡ may_follow (alive_below (atom_ids_of atoms words.now) id) i j }
 {
@@ -118,7 +119,8 @@ fn may_follow(words: &[u32], atoms: u32, id: u32, i: u32, j: u32, guess: usize) 
 }
 
 // The justifications of plan k are 1 to 4 live atoms in rising id, made before it.
-fn justified(words: &[u32], atoms: u32, k: usize, near: Near) -> bool
+#[tactic(auto, using(crate::proofs::Words::plan_justified))]
+fn justified(words: &Words, atoms: u32, k: usize, near: Near) -> bool
     requires { AtomsStand words.now atoms × (k < 64) }
     ensures { result ≡ justified (alive_below (atom_ids_of atoms words.now) (plan_at words.now k).id) (plan_at words.now k).justifications }
 {
@@ -135,7 +137,7 @@ fn justified(words: &[u32], atoms: u32, k: usize, near: Near) -> bool
 }
 
 // Plan k has no subgoal, or one that is alive and was made after it.
-fn subgoal_alive(words: &[u32], atoms: u32, k: usize, guess: usize) -> bool
+fn subgoal_alive(words: &Words, atoms: u32, k: usize, guess: usize) -> bool
     requires { AtomsStand words.now atoms × (k < 64) }
     ensures { result ≡ subgoal_alive (atom_ids_of atoms words.now) (plan_at words.now k) }
 {
@@ -147,7 +149,7 @@ fn subgoal_alive(words: &[u32], atoms: u32, k: usize, guess: usize) -> bool
 }
 
 // The id and the links of plan k are well formed.
-fn node_formed(words: &[u32], scalars: Scalars, k: usize, near: Near) -> bool
+fn node_formed(words: &Words, scalars: Scalars, k: usize, near: Near) -> bool
     requires { AtomsStand words.now scalars.atoms × (k < 64) }
     ensures { result ≡ node_formed (graph (config_of words.now scalars)) (node (plan_at words.now k)) }
 {
@@ -160,8 +162,8 @@ fn node_formed(words: &[u32], scalars: Scalars, k: usize, near: Near) -> bool
 
 // The row, as a step of plan k, makes atom i.
 #[tactic(auto, unfolding(model::specs::WellFormed::makes_atom))]
-fn makes_atom(words: &[u32], k: usize, row: Row, i: usize) -> bool
-    requires { (length words.now ≡ 2432) × (k < 64) × (i < 256) }
+fn makes_atom(words: &Words, k: usize, row: Row, i: usize) -> bool
+    requires { (k < 64) × (i < 256) }
     ensures { result ≡ makes_atom (plan_at words.now k).values row (atom_at words.now i) }
 {
     let a = plan_steps::operand(words, k, row.a);
@@ -171,7 +173,7 @@ fn makes_atom(words: &[u32], k: usize, row: Row, i: usize) -> bool
 
 // The row is a subgoal step, and as a step of plan k makes the atom that is the plan's subgoal.
 #[tactic(auto, using(crate::proofs::Steps::subgoal_found, crate::proofs::Steps::subgoal_absent))]
-fn is_subgoal_step(words: &[u32], scalars: Scalars, k: usize, row: Row, guess: usize) -> bool
+fn is_subgoal_step(words: &Words, scalars: Scalars, k: usize, row: Row, guess: usize) -> bool
     requires { AtomsStand words.now scalars.atoms × (k < 64) }
     ensures { result ≡ is_subgoal_step (config_of words.now scalars) (plan_at words.now k) row }
 {
@@ -184,9 +186,10 @@ fn is_subgoal_step(words: &[u32], scalars: Scalars, k: usize, row: Row, guess: u
 }
 
 // "a plan with a subgoal has as first step a subgoal step equal to that atom"
+#[tactic(auto, unfolding(lists::specs::Lists::some))]
 fn subgoal_first(
     program: &[u32],
-    words: &[u32],
+    words: &Words,
     scalars: Scalars,
     k: usize,
     span: Span,
@@ -216,6 +219,7 @@ pub struct Clauses {
 }
 
 // Operand x of a body: where it is a variable, it must have a value.
+#[tactic(auto, using(crate::proofs::Within::demanded_bounds, crate::proofs::Within::demanded_value))]
 fn demand_value(limits: [u32; 8], x: u32) -> [u32; 8]
     requires { Limits limits }
     ensures { Limits result × Demanded limits x result }
@@ -248,8 +252,8 @@ fn limits_of(program: &[u32], from: usize, to: usize) -> [u32; 8]
 
 // No value of plan k is above its limit.
 #[tactic(auto, unfolding(crate::specs::Plans::within_limits, lists::specs::Lists::every))]
-fn within_limits(words: &[u32], k: usize, limits: [u32; 8]) -> bool
-    requires { (length words.now ≡ 2432) × (k < 64) }
+fn within_limits(words: &Words, k: usize, limits: [u32; 8]) -> bool
+    requires { k < 64 }
     ensures { result ≡ within_limits limits (plan_at words.now k).values }
 {
     let v0 = state::plan_value(words, k, 0);
@@ -290,9 +294,10 @@ pub fn clauses_of(program: &[u32], set: u32, rule: u32) -> Clauses
 }
 
 // Rule, values, remainder, flags and first step of plan k are well formed.
+#[tactic(auto, using(crate::proofs::Tests::tests_formed, plan_steps::proofs::Bodies::span_body))]
 fn plan_formed(
     program: &[u32],
-    words: &[u32],
+    words: &Words,
     scalars: Scalars,
     k: usize,
     at: Clauses,
@@ -315,7 +320,7 @@ fn plan_formed(
 #[tactic(auto, unfolding(crate::specs::Plans::plan_fits))]
 pub fn plan_fits(
     program: &[u32],
-    words: &[u32],
+    words: &Words,
     scalars: Scalars,
     k: usize,
     at: Clauses,
@@ -328,8 +333,9 @@ pub fn plan_fits(
 }
 
 // The first step of plan k is an external action.
-pub fn acts_first(program: &[u32], words: &[u32], k: usize) -> bool
-    requires { (length words.now ≡ 2432) × (k < 64) × Pairs NotLater (rows_of program.now) }
+#[tactic(auto, unfolding(lists::specs::Lists::some))]
+pub fn acts_first(program: &[u32], words: &Words, k: usize) -> bool
+    requires { (k < 64) × Pairs NotLater (rows_of program.now) }
     ensures { result ≡ acts_first (rows_of program.now) (plan_at words.now k) }
 {
     let body = plan_steps::body_of(program, words, k);

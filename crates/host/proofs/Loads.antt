@@ -1,27 +1,30 @@
 -- What a load leaves in the lent slices, accepted or refused.
-use Rattle.std.specs.Prelude.{if◌then◌else◌}
-use mathlib.Core.Path.{◌≡◌, refl, sym, ap, ◌∙◌}
-use mathlib.Core.Bool.{Bool, true, false, ◌&&◌}
+use Rattle.std.specs.Prelude.{if◌then◌else◌, Ok, Err}
+use mathlib.Core.Path.{◌≡◌, sym, ap, ◌∙◌}
+use mathlib.Core.Bool.{Bool, true, false, ◌&&◌, and-false}
 use mathlib.Core.Logic.{◌≢◌}
-use mathlib.Core.List.{List, [], ◌∷◌}
+use mathlib.Core.List.{List}
 use Prim.Native.Nat.{ℕ, ◌+◌, ◌*◌}
 use native.Mathlib.Omega.{arith}
+use lib.Dec.{eqb}
 use lib.ListN.{length}
 use borrow.Author.Tests.{eq-eqb, ne_eqb}
 use Rattle.lists.proofs.Tests.{and2}
+use Rattle.model.specs.declared.Row.{Row}
+use Rattle.model.specs.declared.refusal.LoadError.{LoadError}
+use Rattle.model.specs.Refusals.{number_of}
 use Rattle.model.specs.Configuration.{Config}
 use Rattle.model.specs.Load as Load
 use Rattle.model.specs.Load.{load, loaded, refused}
-use Rattle.model.specs.declared.Row.{Row}
+use Rattle.program.specs.Loading as Loading
 use Rattle.program.specs.Loading.{answer_of, loading}
 use Rattle.program.proofs.Accepts.{number_0}
-use Rattle.loading.specs.declared.Started.{Started}
 use Rattle.loading.specs.Starting as Starting
 use Rattle.loading.specs.Starting.{Start, started_from, starting}
-use Rattle.state.specs.View.{config_of}
-use Rattle.host.specs.Layout.{scalar_words, sized}
+use Rattle.state.proofs.Room.{numbered}
+use Rattle.host.specs.Layout.{sized}
 use Rattle.host.specs.Calls.{held, seen, settled, LoadSeen, rows_report, loaded_as, load_seen}
-use Rattle.host.proofs.Settled.{settled_not, padded_length, seen_after}
+use Rattle.host.proofs.Settled.{kept}
 
 abbrev unread : List ℕ → List ℕ → List ℕ → List ℕ → LoadSeen
 unread program words scalars report = record { seen_of = seen 1 words scalars report; program = program }
@@ -35,47 +38,52 @@ module _ (text program words scalars report : List ℕ) where
   unfolding load_seen
   short_program n = ap (λ (b : Bool). chosen (b && sized words scalars report)) (sym (ne_eqb (length program) 4096 n))
 
-  module _ (p : length program ≡ 4096) where
-    pub short_words : sized words scalars report ≡ false → unread program words scalars report ≡ load_seen text program words scalars report
+  pub short_words : (b : Bool) → b ≡ sized words scalars report → b ≡ false → unread program words scalars report ≡ load_seen text program words scalars report
+  unfolding load_seen
+  short_words b e f = sym (ap (λ (x : Bool). chosen (eqb (length program) 4096 && x)) (sym e ∙ f) ∙ ap chosen (and-false (eqb (length program) 4096)))
+
+  module _ (p : length program ≡ 4096) (z : sized words scalars report ≡ true) where
+    opens : load_seen text program words scalars report ≡ loaded_as (loading text program) (started_from (held words scalars report) (load text)) report
     unfolding load_seen
-    short_words e = sym (ap (λ (b : Bool). chosen (b && sized words scalars report)) (eq-eqb (length program) 4096 p) ∙ ap chosen e)
+    opens = ap chosen (and2 (eq-eqb (length program) 4096 p) z)
 
-    module _ (z : sized words scalars report ≡ true) where
-      opens : load_seen text program words scalars report ≡ loaded_as (loading text program) (started_from (held words scalars report) (load text)) report
-      unfolding load_seen
-      opens = ap chosen (and2 (eq-eqb (length program) 4096 p) z)
+    module _ (after : List ℕ) (c d : Config) where
+      abbrev begun : Load.Loaded → Start
+      begun x = record { answer = answer_of program x; config = started_from c x }
 
-      module _ (r : Started) (after : List ℕ) (c : Config) (e : Starting.seen r after ≡ starting text program c) where
-        pub load_refused : r.number ≢ 0 → record { seen_of = seen (r.line * 4294967296 + r.number) words scalars report; program = program } ≡ load_seen text program words scalars report
-        unfolding Starting.seen starting loading answer_of started_from loaded_as
-        load_refused n = at (load text) e ∙ sym opens
-          where
-            at : (x : Load.Loaded) → Starting.seen r after ≡ record { answer = answer_of program x; config = started_from c x } →
-                record { seen_of = seen (r.line * 4294967296 + r.number) words scalars report; program = program } ≡ loaded_as (answer_of program x) (started_from (held words scalars report) x) report
-            at (loaded rows) f = absurd (n (ap (λ (s : Start). s.answer.number) f))
-            at (refused m k) f =
-                let a : r.number ≡ m = ap (λ (s : Start). s.answer.number) f in
-                let b : r.line ≡ k = ap (λ (s : Start). s.answer.line) f in
-                let d : r.line * 4294967296 + r.number ≡ m + k * 4294967296 = omega arith in
-                let t = settled_not m report (rows_report 0) (λ q. n (a ∙ q)) in
-                λ i. record { seen_of = record { number = d i; config = held words scalars report; report = t i }; program = program }
+      -- a refused load leaves the program as it was, and its number with its line is not 0
+      pub load_refused : (x : LoadError) → Starting.seen d (Err x) after ≡ starting text program c → (n : ℕ) → n ≡ number_of x.refusal →
+          (record { seen_of = seen (x.line * 4294967296 + n) words scalars report; program = after } ≡ load_seen text program words scalars report)
+          × (after ≡ program) × (x.line * 4294967296 + n ≢ 0)
+      unfolding Starting.seen Loading.seen starting loading answer_of started_from loaded_as
+      load_refused x e n g = let r = at (load text) e in (r.0 ∙ sym opens, r.1, λ y. numbered x.refusal (sym g ∙ none y))
+        where
+          none : x.line * 4294967296 + n ≡ 0 → n ≡ 0
+          none y = omega arith
 
-        pub load_accepted : r.number ≡ 0 → (words' scalars' report' : List ℕ) → length words' ≡ length words → words' ≡ r.config.words → scalars' ≡ settled 0 scalars (scalar_words r.config.scalars) → report' ≡ settled 0 report (rows_report r.rows) →
-            record { seen_of = seen 0 words' scalars' report'; program = after } ≡ load_seen text program words scalars report
-        unfolding Starting.seen starting loading answer_of started_from loaded_as
-        load_accepted n words' scalars' report' l w s t =
-            let b = number_0 text program (sym (ap (λ (y : Start). y.answer.number) e) ∙ n) in
-            at b.rows (e ∙ ap begun b.loads) ∙ ap (λ (x : Load.Loaded). loaded_as (answer_of program x) (started_from (held words scalars report) x) report) (sym b.loads) ∙ sym opens
-          where
-            begun : Load.Loaded → Start
-            begun x = record { answer = answer_of program x; config = started_from c x }
+          at : (l : Load.Loaded) → Starting.seen d (Err x) after ≡ begun l →
+              (record { seen_of = seen (x.line * 4294967296 + n) words scalars report; program = after } ≡ loaded_as (answer_of program l) (started_from (held words scalars report) l) report) × (after ≡ program)
+          at (loaded rows) f = absurd (numbered x.refusal (ap (λ (s : Start). s.answer.number) f))
+          at (refused m k) f =
+              let a : n ≡ m = g ∙ ap (λ (s : Start). s.answer.number) f in
+              let b : x.line ≡ k = ap (λ (s : Start). s.answer.line) f in
+              let q : x.line * 4294967296 + n ≡ m + k * 4294967296 = omega arith in
+              let t = kept x.refusal report (rows_report 0) ∙ ap (λ (y : ℕ). settled y report (rows_report 0)) (sym g ∙ a) in
+              let u = ap (λ (s : Start). s.answer.program) f in
+              (λ i. record { seen_of = record { number = q i; config = held words scalars report; report = t i }; program = u i }, u)
 
-            at : (rows : List Row) → Starting.seen r after ≡ begun (loaded rows) →
-                record { seen_of = seen 0 words' scalars' report'; program = after } ≡ loaded_as (answer_of program (loaded rows)) (started_from (held words scalars report) (loaded rows)) report
-            at rows f =
-                let h = seen_after words scalars report words' scalars' report' r.config.scalars 0 (rows_report r.rows) z l (padded_length 8 (r.rows ∷ [])) s t (λ q. absurd (q refl)) (λ q. absurd (q refl)) 0 refl in
-                let a = ap (λ (y : List ℕ). config_of y r.config.scalars) w ∙ ap (λ (y : Start). y.config) f in
-                let b = ap (λ (y : Start). y.answer.rows) f in
-                let d = ap (λ (y : Start). y.answer.program) f in
-                (λ i. record { seen_of = h i; program = after })
-                ∙ (λ i. record { seen_of = record { number = 0; config = a i; report = settled 0 report (rows_report (b i)) }; program = d i })
+      pub load_accepted : (rows : ℕ) → Starting.seen d (Ok rows) after ≡ starting text program c → (words' scalars' report' : List ℕ) →
+          held words' scalars' report' ≡ d → report' ≡ rows_report rows →
+          record { seen_of = seen 0 words' scalars' report'; program = after } ≡ load_seen text program words scalars report
+      unfolding Starting.seen Loading.seen starting loading answer_of started_from loaded_as settled
+      load_accepted rows e words' scalars' report' h t =
+          let b = number_0 text program (sym (ap (λ (y : Start). y.answer.number) e)) in
+          at b.rows (e ∙ ap begun b.loads) ∙ ap (λ (x : Load.Loaded). loaded_as (answer_of program x) (started_from (held words scalars report) x) report) (sym b.loads) ∙ sym opens
+        where
+          at : (l : List Row) → Starting.seen d (Ok rows) after ≡ begun (loaded l) →
+              record { seen_of = seen 0 words' scalars' report'; program = after } ≡ loaded_as (answer_of program (loaded l)) (started_from (held words scalars report) (loaded l)) report
+          at l f =
+              let a = h ∙ ap (λ (y : Start). y.config) f in
+              let b = t ∙ ap (λ (y : Start). rows_report y.answer.rows) f in
+              let k = ap (λ (y : Start). y.answer.program) f in
+              λ i. record { seen_of = record { number = 0; config = a i; report = b i }; program = k i }

@@ -4,6 +4,6 @@ pub mod Answered
 pub mod Sensed
 pub mod Limits
 pub mod Waiting
-pub mod Stepped
-pub mod Ran
+pub mod StepAnswered
+pub mod RunAnswered
 pub mod Stays

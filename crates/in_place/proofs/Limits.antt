@@ -82,3 +82,5 @@ still_refused program rs c words words' r z f L q = at (sense_rows program rs L)
     at (refused n) r z g = g
     at (accepted M) (Ok x) z g = cc
     at (accepted M) (Err b) z g = g
+
+pub ruleset restoring = (no_limit, still_refused)

@@ -2,7 +2,6 @@
 use Rattle.std.specs.Prelude.{if◌then◌else◌}
 use mathlib.Core.Path.{◌≡◌, refl, sym, ap, ◌∙◌, subst}
 use mathlib.Core.Bool.{Bool, true, false, not, ◌&&◌, and-eq-true_iff}
-use mathlib.Core.Logic.{◌≢◌}
 use mathlib.Core.List.{List, [], ◌∷◌}
 use Prim.Native.Nat.{ℕ, ◌%◌}
 use lib.Dec.{eqb}
@@ -15,7 +14,10 @@ use Rattle.model.specs.Graph.{Sound}
 use Rattle.model.specs.Deletion.{graph}
 use Rattle.model.specs.Render.{well_formed, in_range}
 use Rattle.model.specs.WellFormed.{config_formed, given_well}
+use Rattle.model.specs.declared.refusal.Refusal.{Refusal}
+use Rattle.model.specs.Refusals.{number_of}
 use Rattle.model.specs.Log.{Outcome, refused, unless, answer_of}
+use Rattle.model.specs.Calls.{sense, step, answer, delete, Call, to_sense, to_step, to_answer, to_delete, work, program_of, reply}
 use native.Mathlib.Omega.{arith}
 use Rattle.program.specs.Rows.{rows_of, program_formed}
 use Rattle.state.specs.View.{config_of, SoundWords}
@@ -25,9 +27,8 @@ use Rattle.program_laws.proofs.Lawful.{lawful}
 use Rattle.demands.proofs.Outcomes.{unless_true, unless_false}
 use Rattle.demands.proofs.Shape.{Shaped, formed_shaped}
 use Rattle.state.specs.declared.Scalars.{Scalars}
-use Rattle.in_place.specs.Given.{no_row, given_rows, admitted}
-use Rattle.in_place.specs.declared.Change.{Change}
-use Rattle.in_place.specs.Changes.{left_by, refusal}
+use Rattle.in_place.specs.Given.{no_row, given_rows, admitted, Admitted}
+use Rattle.in_place.specs.Answers.{refused_with}
 
 -- words that are not whole rows are refused
 torn_refused : (c : Configuration.Config) → given_well (no_row ∷ []) c ≡ false
@@ -43,11 +44,23 @@ rows_admitted program c = at (eqb (length program % 8) 0)
     at true e = refl
     at false e = clash e (torn_refused c)
 
-module _ (program : List ℕ) (c : Configuration.Config) (o : Outcome) where
-  pub not_admitted : admitted program c ≡ false → unless (not (given_well (given_rows program) c)) 1 o ≡ refused 1
-  unfolding admitted
-  not_admitted e = unless_true (not (given_well (given_rows program) c)) 1 o (ap not e)
+-- what a refused call answers
+pub refuses : (k : Call) (c : Configuration.Config) (e : Refusal) → work k c ≡ refused (number_of e) → refused_with c e ≡ reply k c
+unfolding answer_of
+refuses k c e d = ap (answer_of c) (sym d)
 
+-- refusal 1
+not_well : (k : Call) (c : Configuration.Config) → given_well (program_of k) c ≡ false → work k c ≡ refused 1
+unfolding work sense step answer delete
+not_well (to_sense p rs) c e = unless_true _ 1 _ (ap not e)
+not_well (to_step p) c e = unless_true _ 1 _ (ap not e)
+not_well (to_answer p n) c e = unless_true _ 1 _ (ap not e)
+not_well (to_delete p t) c e = unless_true _ 1 _ (ap not e)
+
+pub untested : (k : Call) (c : Configuration.Config) (e : Refusal) → given_well (program_of k) c ≡ false → number_of e ≡ 1 → refused_with c e ≡ reply k c
+untested k c e g n = refuses k c e (not_well k c g ∙ ap refused (sym n))
+
+module _ (program : List ℕ) (c : Configuration.Config) (o : Outcome) where
   pub is_admitted : admitted program c ≡ true → unless (not (given_well (given_rows program) c)) 1 o ≡ o
   unfolding admitted
   is_admitted e = unless_false (not (given_well (given_rows program) c)) 1 o (ap not e)
@@ -69,18 +82,11 @@ admitted_well program c e =
     let d = formed_shaped (rows_of program) c b.1 in
     record { lawful_rows = lawful (rows_of program) b.0; sound = d.0; shaped = d.1 }
 
--- a refused call leaves what it was given
-pub refuses : (words words' : List ℕ) (s : Scalars) (r : Change) (n : ℕ) (o : Outcome) → words' ≡ words → r ≡ refusal s n → o ≡ refused n →
-    (left_by words' r ≡ answer_of (config_of words s) o) × (r.number ≢ 0 → (words' ≡ words) × (r ≡ refusal s r.number))
-unfolding answer_of
-refuses words words' s r n o w e d = ((λ i. left_by (w i) (e i)) ∙ ap (answer_of (config_of words s)) (sym d), λ z. (w, e ∙ ap (refusal s) (sym (ap (λ (x : Change). x.number) e))))
-
 -- the words of an admitted configuration can be worked on
-pub admitted_words : (program words : List ℕ) (s : Scalars) → length words ≡ 2432 → admitted program (config_of words s) ≡ true → SoundWords words s
-admitted_words program words s l e =
+pub admitted_words : (program words : List ℕ) (s : Scalars) → Admitted program words s → SoundWords words s
+admitted_words program words s e =
     let a = admitted_well program (config_of words s) e in
     record {
-      long = l;
       few_atoms = let h = atoms_counted (words) (s) in omega (arith, a.shaped.few_atoms);
       few_plans = let h = plans_counted (words) (s) in omega (arith, a.shaped.few_plans);
       sound = a.sound;
@@ -106,3 +112,5 @@ program_passed program c = at (eqb (length program % 8) 0)
 pub program_lawful : (program : List ℕ) → program_formed program ≡ true → Lawful (rows_of program)
 unfolding program_formed
 program_lawful program e = lawful (rows_of program) ((and-eq-true_iff (eqb (length program % 8) 0) (well_formed (rows_of program))).0 e).1
+
+pub ruleset admitting = (program_refused, program_passed, program_lawful)

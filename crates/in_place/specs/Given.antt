@@ -21,9 +21,8 @@ unfoldable pub admitted : List ℕ → Config → Bool
 admitted program c = given_well (given_rows program) c
 
 -- what a load or an accepted call leaves
-pub record Admitted (program words : List ℕ) (s : Scalars) : Type 0 where
-  pub sized : length words ≡ 2432
-  pub well : admitted program (config_of words s) ≡ true
+abbrev pub Admitted : List ℕ → List ℕ → Scalars → Type 0
+Admitted program words s = admitted program (config_of words s) ≡ true
 
 -- rows of four words; what is left over is a row out of range
 abbrev pub no_reading : Reading

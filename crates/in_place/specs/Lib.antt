@@ -1,2 +1,2 @@
 pub mod Given
-pub mod Changes
+pub mod Answers

@@ -30,6 +30,7 @@ fn read_some<R: Read>(reader: &mut R, buffer: &mut [u8]) -> usize
 }
 
 // What is left comes to the front, and more is read behind it: how many bytes there are then.
+// kept: the buffer is the caller's, of any length; what it holds is told beside it.
 fn refill<R: Read>(reader: &mut R, buffer: &mut [u8], from: usize, to: usize) -> usize
     requires { (from ≤ to) × (to ≤ length buffer.old) }
     ensures { (to - from ≤ result) × (result ≤ length buffer.new) }
@@ -45,6 +46,7 @@ pub fn read_full<R: Read>(reader: &mut R, buffer: &mut [u8]) -> usize
     ensures { result ≤ length buffer.new }
 {
     let mut done: usize = 0;
+    // kept: no plainer otherwise. A read gives some of the bytes that are wanted, and none at the end.
     while done < buffer.len() {
         let got = read_some(reader, &mut buffer[done..]);
         if got == 0 {
@@ -67,6 +69,7 @@ pub fn next_line<R: Read>(
 {
     let mut begin = from;
     let mut held = to;
+    // kept: no plainer otherwise. The place and what is held change with each read.
     loop {
         let end = text::newline(&buffer[..held], begin);
         if 4096 < end - begin {

@@ -1,14 +1,18 @@
 -- What calls come to from a loaded text: their sums are small, and demand 3 holds of them.
+use Rattle.std.specs.Prelude.{Result, Ok, Err}
+use Rattle.std.specs.Result.{result_unwrap_or}
 use mathlib.Core.Path.{◌≡◌, refl, sym, ap, ◌∙◌, subst}
 use mathlib.Core.Bool.{true, and-eq-true_iff}
 use mathlib.Core.Logic.{◌≢◌}
 use mathlib.Core.List.{List, [], ◌∷◌}
-use Prim.Native.Nat.{ℕ, ◌+◌, ◌≤◌}
+use Prim.Native.Nat.{ℕ, ◌+◌, ◌<◌, ◌≤◌}
 use native.Mathlib.Nat.{zero-add, add-zero, pos_of_ne-zero}
 use native.Mathlib.Omega.{arith}
 use lib.ListN.{length, drop, length-drop}
 use lib.Seq.{drop-drop}
 use Rattle.model.specs.declared.Row.{Row}
+use Rattle.model.specs.declared.refusal.Refusal.{Refusal}
+use Rattle.model.specs.declared.refusal.LoadError.{LoadError}
 use Rattle.model.specs.Program.{initial_atoms}
 use Rattle.model.specs.Configuration.{Config, fresh}
 use Rattle.model.specs.Graph.{Graph}
@@ -21,12 +25,13 @@ use Rattle.model.specs.Claims.{Call, work, program_of, reply, config_after, even
 use Rattle.demands.proofs.Shape.{formed_shaped}
 use Rattle.demands.proofs.Fresh.{fresh_graph}
 use Rattle.demands.proofs.Calls.{keeps_well_formed, demand_three}
+use Rattle.in_place.specs.declared.Counts.{Counts}
 use Rattle.in_place.specs.Given.{given_rows}
-use Rattle.state.specs.declared.Config as Declared
-use Rattle.interpreter.specs.declared.Reply.{Reply}
+use Rattle.in_place.specs.Answers.{answered}
+use Rattle.interpreter.specs.declared.Worked.{Worked}
 use Rattle.interpreter.specs.declared.Played.{Played}
-use Rattle.interpreter.specs.Calls.{conf, reported}
-use Rattle.interpreter.specs.Playing.{call_size, first_call, calls_of, PlayOutcome, after_calls, after_load, playing, outcome, AccountedFor, call_answer, Begun, counted}
+use Rattle.interpreter.specs.Calls.{conf}
+use Rattle.interpreter.specs.Playing.{call_size, first_call, calls_of, PlayOutcome, after_calls, after_load, playing, come_to, outcome, AccountedFor, call_answer, Begun, and_counted}
 use Rattle.interpreter.proofs.Words.{sized, no_calls, more_calls}
 
 -- NEXT ID: it rises by what is made, and stays in its limit
@@ -68,68 +73,98 @@ module _ (text : List ℕ) (program : List Row) (l : load text ≡ loaded progra
       let first = ap (λ (g : Graph). g.next) (fresh_graph program) in
       omega (arith, first, stands.adds_up, next_rises ks (fresh program), ends_in_limit)
 
+left_by : (c : Config) (r : Result Worked LoadError) → (come_to c r).config ≡ c
+left_by c (Ok w) = refl
+left_by c (Err e) = refl
+
 pub accounts : (text words : List ℕ) (r : Played) → outcome r ≡ playing text words → AccountedFor text words r
 unfolding AccountedFor after_load
 accounts text words r e program l =
     let ks = calls_of program words in
-    subst (λ (x : PlayOutcome). Accounted (length (initial_atoms program)) (events_after (fresh program) ks) (graph x.config) x.made x.gone)
-    (sym (e ∙ ap (after_load words) l)) (stands text program l ks)
+    let events = events_after (fresh program) ks in
+    subst (λ (c : Config). Accounted (length (initial_atoms program)) events (graph c) (outcome r).made (outcome r).gone) (left_by (conf r.config) r.worked)
+    (subst (λ (x : PlayOutcome). Accounted (length (initial_atoms program)) events (graph x.config) x.made x.gone) (sym (e ∙ ap (after_load words) l))
+    (stands text program l ks))
 
--- ON THE WAY: what the calls that are left bring to what was played
-abbrev pub carried : Played → List Call → PlayOutcome
-carried p ks =
-    let c = conf p.config in
-    record { config = config_after c ks; number = p.number; line = p.line; calls = p.calls + length ks; made = p.made + made_after c ks; gone = p.gone + gone_after c ks }
+-- ON THE WAY: what the calls that are left bring to what was worked
+abbrev pub carried : Config → Worked → List Call → PlayOutcome
+carried c w ks = record {
+  config = config_after c ks;
+  number = 0;
+  line = 0;
+  calls = w.calls + length ks;
+  made = w.made + made_after c ks;
+  gone = w.gone + gone_after c ks;
+}
 
-onward : (p : Played) (r : Reply) (k : Call) (ks : List Call) → reported r ≡ call_answer (reply k (conf p.config)) → carried p (k ∷ ks) ≡ carried (counted p r) ks
-onward p r k ks e =
-    let a = reply k (conf p.config) in
-    let d : a.config ≡ conf r.config = sym (ap (λ (x : Answer). x.config) e) in
-    let m = ap (λ (x : Answer). x.made) e in
-    let g = ap (λ (x : Answer). x.gone) e in
-    let calls : p.calls + length (k ∷ ks) ≡ p.calls + 1 + length ks = omega arith in
-    let made : p.made + made_after (conf p.config) (k ∷ ks) ≡ p.made + r.made + made_after (conf r.config) ks = omega (arith, m, ap (λ (c : Config). made_after c ks) d) in
-    let gone : p.gone + gone_after (conf p.config) (k ∷ ks) ≡ p.gone + r.gone + gone_after (conf r.config) ks = omega (arith, g, ap (λ (c : Config). gone_after c ks) d) in
-    λ i. record { config = config_after (d i) ks; number = p.number; line = p.line; calls = calls i; made = made i; gone = gone i }
+-- what a call tells, where a refused one tells of nothing
+abbrev pub told : Result Counts Refusal → Counts
+told r = result_unwrap_or r (record { made = 0; gone = 0 })
+
+record Tells (c : Config) (r : Result Counts Refusal) (a : Answer) : Type 0 where
+  config : a.config ≡ c
+  made : a.made ≡ (told r).made
+  gone : a.gone ≡ (told r).gone
+
+tells : (c : Config) (r : Result Counts Refusal) (a : Answer) → answered c r ≡ call_answer a → Tells c r a
+tells c (Ok t) a e = record {
+  config = sym (ap (λ (x : Answer). x.config) e);
+  made = sym (ap (λ (x : Answer). x.made) e);
+  gone = sym (ap (λ (x : Answer). x.gone) e);
+}
+tells c (Err x) a e = record {
+  config = sym (ap (λ (x : Answer). x.config) e);
+  made = sym (ap (λ (x : Answer). x.made) e);
+  gone = sym (ap (λ (x : Answer). x.gone) e);
+}
+
+onward : (c d : Config) (w : Worked) (r : Result Counts Refusal) (k : Call) (ks : List Call) → answered d r ≡ call_answer (reply k c) →
+    carried c w (k ∷ ks) ≡ carried d (and_counted w (told r)) ks
+onward c d w r k ks e =
+    let t = tells d r (reply k c) e in
+    let calls : w.calls + length (k ∷ ks) ≡ w.calls + 1 + length ks = omega arith in
+    let made : w.made + made_after c (k ∷ ks) ≡ w.made + (told r).made + made_after d ks = omega (arith, t.made, ap (λ (x : Config). made_after x ks) t.config) in
+    let gone : w.gone + gone_after c (k ∷ ks) ≡ w.gone + (told r).gone + gone_after d ks = omega (arith, t.gone, ap (λ (x : Config). gone_after x ks) t.config) in
+    λ i. record { config = config_after (t.config i) ks; number = 0; line = 0; calls = calls i; made = made i; gone = gone i }
 
 -- the words before `at` were played, and what is left brings the whole
-pub record Underway (program words : List ℕ) (p : Played) (at : ℕ) : Type 0 where
+pub record Underway (program words : List ℕ) (c : Config) (w : Worked) (at : ℕ) : Type 0 where
   pub fits : at ≤ length words
-  pub few : p.calls ≤ at
-  pub whole : after_calls (given_rows program) (calls_of (given_rows program) words) ≡ carried p (calls_of (given_rows program) (drop at words))
+  pub few : w.calls ≤ at
+  pub whole : after_calls (given_rows program) (calls_of (given_rows program) words) ≡ carried c w (calls_of (given_rows program) (drop at words))
 
-pub begins : (program words : List ℕ) (c : Declared.Config) → Begun program (conf c) → Underway program words (record { config = c; number = 0; line = 0; calls = 0; made = 0; gone = 0 }) 0
+pub begins : (program words : List ℕ) (c : Config) → Begun program c → Underway program words c (record { calls = 0; made = 0; gone = 0 }) 0
 begins program words c b = record { fits = omega arith; few = omega arith; whole = rw b.starts (simp zero-add) }
 
--- the rest stands at `at`, and its first call takes this many words
-module _ {program words : List ℕ} {p : Played} {at : ℕ} (u : Underway program words p at) {rest : List ℕ} (f : rest ≡ drop at words) {size : ℕ} (s : size ≡ call_size rest) where
-  to_play : after_calls (given_rows program) (calls_of (given_rows program) words) ≡ carried p (calls_of (given_rows program) rest)
-  to_play = u.whole ∙ ap (λ (l : List ℕ). carried p (calls_of (given_rows program) l)) (sym f)
+-- the rest stands at `at`
+module _ {program words : List ℕ} {c : Config} {w : Worked} {at : ℕ} (u : Underway program words c w at) {rest : List ℕ} (f : rest ≡ drop at words) where
+  to_play : after_calls (given_rows program) (calls_of (given_rows program) words) ≡ carried c w (calls_of (given_rows program) rest)
+  to_play = u.whole ∙ ap (λ (l : List ℕ). carried c w (calls_of (given_rows program) l)) (sym f)
 
-  pub ends : size ≡ 0 → outcome p ≡ after_calls (given_rows program) (calls_of (given_rows program) words)
-  ends z = sym (to_play ∙ ap (carried p) (no_calls (given_rows program) rest (sym s ∙ z)) ∙ simp add-zero)
+  pub ends : call_size rest ≡ 0 → come_to c (Ok w) ≡ after_calls (given_rows program) (calls_of (given_rows program) words)
+  ends z = sym (to_play ∙ ap (carried c w) (no_calls (given_rows program) rest z) ∙ simp add-zero)
 
-  module _ (z : size ≢ 0) where
-    pub there : call_size rest ≢ 0
-    there e = z (s ∙ e)
+  -- its first call takes this many words
+  module _ {size : ℕ} (s : (call_size rest ≡ size) × (call_size rest ≢ 0)) where
+    pub moved : (at + size ≤ length words) × (0 < size)
+    moved = let d = sized rest s.1 in (omega (arith, s.0, d.size, d.fits, ap length f, length-drop at words, u.fits), omega (arith, s.0, pos_of_ne-zero s.1))
 
-    pub moved : at + size ≤ length words
-    moved = let d = sized rest there in omega (arith, s, d.size, d.fits, ap length f, length-drop at words, u.fits)
-
-    module _ (r : Reply) (e : reported r ≡ call_answer (reply (first_call (given_rows program) rest) (conf p.config))) where
-      worked : after_calls (given_rows program) (calls_of (given_rows program) words) ≡ carried (counted p r) (calls_of (given_rows program) (drop (at + size) words))
+    module _ (d : Config) (r : Result Counts Refusal) (e : answered d r ≡ call_answer (reply (first_call (given_rows program) rest) c)) where
+      worked : after_calls (given_rows program) (calls_of (given_rows program) words) ≡
+          carried d (and_counted w (told r)) (calls_of (given_rows program) (drop (at + size) words))
       worked =
-          let left : drop (call_size rest) rest ≡ drop (at + size) words = (λ i. drop (sym s i) (f i)) ∙ drop-drop size at words in
-          to_play ∙ ap (carried p) (more_calls (given_rows program) rest there)
-          ∙ onward p r (first_call (given_rows program) rest) (calls_of (given_rows program) (drop (call_size rest) rest)) e
-          ∙ ap (λ (l : List ℕ). carried (counted p r) (calls_of (given_rows program) l)) left
+          let left : drop (call_size rest) rest ≡ drop (at + size) words = (λ i. drop (s.0 i) (f i)) ∙ drop-drop size at words in
+          to_play ∙ ap (carried c w) (more_calls (given_rows program) rest s.1)
+          ∙ onward c d w r (first_call (given_rows program) rest) (calls_of (given_rows program) (drop (call_size rest) rest)) e
+          ∙ ap (λ (l : List ℕ). carried d (and_counted w (told r)) (calls_of (given_rows program) l)) left
 
-      pub small : {c : Config} → Begun program c → (p.made + r.made ≤ 65536) × (p.gone + r.gone ≤ 65536)
-      small b =
-          let ks = calls_of (given_rows program) words in
-          let m = made_small b.text (given_rows program) b.loads ks in
-          let g = gone_small b.text (given_rows program) b.loads ks in
-          (omega (arith, ap (λ (x : PlayOutcome). x.made) worked), omega (arith, ap (λ (x : PlayOutcome). x.gone) worked))
+      module _ {t : Counts} (q : t ≡ told r) where
+        pub small : {b : Config} → Begun program b → (w.made + t.made ≤ 65536) × (w.gone + t.gone ≤ 65536)
+        small b =
+            let ks = calls_of (given_rows program) words in
+            let m = made_small b.text (given_rows program) b.loads ks in
+            let g = gone_small b.text (given_rows program) b.loads ks in
+            rw q (omega (arith, ap (λ (x : PlayOutcome). x.made) worked), omega (arith, ap (λ (x : PlayOutcome). x.gone) worked))
 
-      pub goes_on : {q : Played} → q ≡ counted p r → Underway program words q (at + size)
-      goes_on w = rw w (record { fits = moved; few = omega (arith, pos_of_ne-zero z, u.few); whole = worked })
+        pub goes_on : {v : Worked} → v ≡ and_counted w t → Underway program words d v (at + size)
+        goes_on e = rw (e, q) (record { fits = moved.0; few = omega (arith, moved.1, u.few); whole = worked })

@@ -1,5 +1,6 @@
 -- The first call that words are, and the list of their calls.
-use Rattle.std.specs.Prelude.{if◌then◌else◌}
+use Rattle.std.specs.Prelude.{Option, if◌then◌else◌}
+use Rattle.std.specs.Bool.{then_some}
 use mathlib.Core.Path.{◌≡◌, refl, sym, ap, ◌∙◌, subst}
 use mathlib.Core.Bool.{Bool, true, false, ◌&&◌}
 use mathlib.Core.Logic.{◌≢◌}
@@ -13,7 +14,7 @@ use Rattle.lists.specs.Lists.{within}
 use Rattle.model.specs.declared.Row.{Row}
 use Rattle.model.specs.Claims.{Call, to_sense, to_step, to_answer, to_delete}
 use Rattle.in_place.specs.Given.{given_rows, readings_of}
-use Rattle.interpreter.specs.Playing.{kind, own, operand, program_end, call_end, call_size, program_in, call_by, first_call, calls_in, calls_of}
+use Rattle.interpreter.specs.Playing.{kind, own, operand, program_end, call_end, call_size, SizeOf, program_in, call_by, first_call, calls_in, calls_of}
 
 -- what the readings take is at most what their number says
 pub at_most : (b : Bool) (n : ℕ) → (if b then n else 0) ≤ n
@@ -35,6 +36,13 @@ module _ (words : List ℕ) where
       at : (b : Bool) → (b && false) ≡ false
       at true = refl
       at false = refl
+
+  pub size_told : (n : ℕ) (r : Option ℕ) → n ≡ call_end words → r ≡ then_some (sized_by n) n → SizeOf (call_size words) r
+  size_told n r e q = rw q (at (sized_by n) refl)
+    where
+      at : (b : Bool) → sized_by n ≡ b → SizeOf (call_size words) (then_some b n)
+      at true t = let s = size_is n true e t in (sym s, λ z. omega arith)
+      at false t = sym (size_is n false e t)
 
   pub record Sized : Type 0 where
     pub size : call_size words ≡ call_end words

@@ -1,7 +1,9 @@
 -- A list of calls as words, and what a play of it comes to.
-use Rattle.std.specs.Prelude.{◌≡◌, ◌&&◌, List, [], ◌∷◌, ℕ, zero, suc, ◌+◌, ◌-◌, eqb, leb, length, take, drop, get_or, if◌then◌else◌}
+use Rattle.std.specs.Prelude.{◌≡◌, ◌≢◌, ◌&&◌, Option, MatchOption, Result, Ok, Err, List, [], ◌∷◌, ℕ, zero, suc, ◌+◌, ◌-◌, eqb, leb, length, take, drop, get_or, if◌then◌else◌}
 use Rattle.lists.specs.Lists.{within}
 use Rattle.model.specs.declared.Row.{Row}
+use Rattle.model.specs.declared.refusal.LoadError.{LoadError}
+use Rattle.model.specs.Refusals.{number_of}
 use Rattle.model.specs.Program.{initial_atoms}
 use Rattle.model.specs.Configuration.{empty, fresh}
 use Rattle.model.specs.Configuration as Configuration
@@ -10,7 +12,8 @@ use Rattle.model.specs.Load.{Loaded, loaded, refused, load}
 use Rattle.model.specs.Log.{Answer, called}
 use Rattle.model.specs.Claims.{Call, to_sense, to_step, to_answer, to_delete, config_after, events_after, made_after, gone_after, Accounted}
 use Rattle.in_place.specs.Given.{given_rows, readings_of}
-use Rattle.interpreter.specs.declared.Reply.{Reply}
+use Rattle.in_place.specs.declared.Counts.{Counts}
+use Rattle.interpreter.specs.declared.Worked.{Worked}
 use Rattle.interpreter.specs.declared.Played.{Played}
 use Rattle.interpreter.specs.Calls.{conf}
 
@@ -84,13 +87,17 @@ after_load words (loaded program) = after_calls program (calls_of program words)
 abbrev pub playing : List ℕ → List ℕ → PlayOutcome
 playing text words = after_load words (load text)
 
+abbrev pub come_to : Configuration.Config → Result Worked LoadError → PlayOutcome
+come_to c (Ok w) = record { config = c; number = 0; line = 0; calls = w.calls; made = w.made; gone = w.gone }
+come_to c (Err e) = record { config = c; number = number_of e.refusal; line = e.line; calls = 0; made = 0; gone = 0 }
+
 abbrev pub outcome : Played → PlayOutcome
-outcome r = record { config = conf r.config; number = r.number; line = r.line; calls = r.calls; made = r.made; gone = r.gone }
+outcome r = come_to (conf r.config) r.worked
 
 -- demand 3 of what a play gave
 unfoldable pub AccountedFor : List ℕ → List ℕ → Played → Type 0
 AccountedFor text words r = (program : List Row) → load text ≡ loaded program →
-    Accounted (length (initial_atoms program)) (events_after (fresh program) (calls_of program words)) (graph (conf r.config)) r.made r.gone
+    Accounted (length (initial_atoms program)) (events_after (fresh program) (calls_of program words)) (graph (conf r.config)) (outcome r).made (outcome r).gone
 
 -- ON THE WAY: the answer, but for what a step did
 abbrev pub call_answer : Answer → Answer
@@ -102,6 +109,10 @@ pub record Begun (program : List ℕ) (c : Configuration.Config) : Type 0 where
   pub loads : load text ≡ loaded (given_rows program)
   pub starts : c ≡ fresh (given_rows program)
 
--- a call's reply added
-abbrev pub counted : Played → Reply → Played
-counted p r = record { config = r.config; number = p.number; line = p.line; calls = p.calls + 1; made = p.made + r.made; gone = p.gone + r.gone }
+-- one call more
+abbrev pub and_counted : Worked → Counts → Worked
+and_counted w t = record { calls = w.calls + 1; made = w.made + t.made; gone = w.gone + t.gone }
+
+-- the size of a call, where 0 says that there is none
+abbrev pub SizeOf : ℕ → Option ℕ → Type 0
+SizeOf n r = MatchOption r (n ≡ 0) (λ k. (n ≡ k) × (n ≢ 0))

@@ -16,17 +16,9 @@ fn read_text(rt: &impl Files, text: &mut [u8]) -> usize
     }
 }
 
-fn write_first(rt: &impl Print, out: [u8; 16384], n: usize) -> io::Result<()> {
-    if n <= 16384 {
-        rt.write_all(&out[..n])?;
-    }
-    Ok(())
-}
-
 fn main(rt: HostRuntime) -> io::Result<()> {
     let mut text = [0u8; 65536];
     let n = read_text(&rt, &mut text);
-    let mut out = [0u8; 16384];
-    let k = printed_run::print_run(&text[..n], &mut out);
-    write_first(&rt, out, k)
+    let page = printed_run::print_run(&text[..n]);
+    rt.write_all(page.as_slice())
 }

@@ -9,13 +9,11 @@ use lib.ListN.{length, drop}
 use Rattle.lists.specs.Lists.{In, Pairs}
 use Rattle.lists.proofs.Lists.{all_map, in_nil, in_cons}
 use Rattle.lists.proofs.Tables.{tabulate_from, tabulate_end}
-use Rattle.model.specs.Text.{bytes}
 use Rattle.model.specs.Configuration.{Plan, Config}
-use Rattle.model.specs.Run.{atom_line, plan_line, all_by_id, instances, as_text, listing}
+use Rattle.model.specs.Run.{atom_line, plan_line, all_by_id, instances, as_text}
 use Rattle.state.specs.declared.Scalars.{Scalars}
 use Rattle.state.specs.View.{atom_at, plan_at, atoms_of, plans_of, config_of}
-use Rattle.listing.specs.Listing.{Puts, line, is_atom_next, Listable}
-use Rattle.listing.proofs.Written.{puts_none, puts_then, puts_first}
+use Rattle.listing.specs.Listing.{line, is_atom_next, Listable}
 use Rattle.listing.proofs.Lines.{text_line}
 use Rattle.listing.proofs.Next.{le_or_lt, next_atom, next_plan}
 use Rattle.listing.proofs.Merge.{id_of, low_first, insert_first, insert_below}
@@ -48,40 +46,40 @@ module _ (words : List ℕ) (s : Scalars) where
   plans_end : (j : ℕ) → j ≡ s.plans → plan_lines j ≡ []
   plans_end j e = rw (e, tabulate_end s.plans (plan_at words))
 
-  -- i atoms and j plans are listed, from a place on
-  pub record Listed (out₀ : List ℕ) (from : ℕ) (out : List ℕ) (at i j : ℕ) : Type 0 where
+  -- i atoms and j plans are listed behind what was there
+  pub record Listed (before out : List ℕ) (i j : ℕ) : Type 0 where
     pub some_atoms : i ≤ s.atoms
     pub some_plans : j ≤ s.plans
     pub written : List ℕ
-    pub puts : Puts written out₀ from out at
+    pub text : out ≡ before ++ written
     pub whole : written ++ as_text (lines_left i j) ≡ as_text (instances (config_of words s))
-    pub short : at ≤ from + 36 * (i + j)
+    pub short : length out ≤ length before + 36 * (i + j)
 
-  pub listed_none : (out : List ℕ) (from : ℕ) → Listed out from out from 0 0
+  pub listed_none : (out : List ℕ) → Listed out out 0 0
   unfolding instances lines_left
-  listed_none out from = record {
+  listed_none out = record {
     some_atoms = omega arith;
     some_plans = omega arith;
     written = [];
-    puts = puts_none out from;
+    text = sym (append-nil out);
     whole = refl;
     short = omega arith;
   }
 
-  module _ (out₀ : List ℕ) (from : ℕ) (out : List ℕ) (at i j : ℕ) (w : Listed out₀ from out at i j) where
+  module _ (before out : List ℕ) (i j : ℕ) (w : Listed before out i j) where
     -- one line more
-    more : (l : List ℕ) (left : List ℕ) (r x y : ℕ) → x ≤ s.atoms → y ≤ s.plans → x + y ≡ i + j + 1 → lines_left i j ≡ l ∷ lines_left x y
-        → Puts (line l) out at left r → r ≤ at + 36 → Listed out₀ from left r x y
-    more l left r x y hx hy n e p h = record {
+    more : (l : List ℕ) (left : List ℕ) (x y : ℕ) → x ≤ s.atoms → y ≤ s.plans → x + y ≡ i + j + 1 → lines_left i j ≡ l ∷ lines_left x y
+        → left ≡ out ++ line l → length left ≤ length out + 36 → Listed before left x y
+    more l left x y hx hy n e p h = record {
       some_atoms = hx;
       some_plans = hy;
       written = w.written ++ line l;
-      puts = puts_then out₀ from w.puts p;
+      text = p ∙ ap (λ (t : List ℕ). t ++ line l) w.text ∙ append_assoc before w.written (line l);
       whole = append_assoc w.written (line l) (as_text (lines_left x y)) ∙ ap (λ (t : List ℕ). w.written ++ t) (sym (ap as_text e ∙ text_line l (lines_left x y))) ∙ w.whole;
       short = let k = w.short in omega arith;
     }
 
-    pub listed_end : s.atoms + s.plans ≤ i + j → Puts (as_text (instances (config_of words s))) out₀ from out at
+    pub listed_end : s.atoms + s.plans ≤ i + j → out ≡ before ++ as_text (instances (config_of words s))
     unfolding lines_left all_by_id as_text
     listed_end h =
         let a = w.some_atoms in
@@ -89,7 +87,7 @@ module _ (words : List ℕ) (s : Scalars) where
         let e : lines_left i j ≡ [] = rw (plans_end j (omega arith), atoms_end i (omega arith)) in
         let l : w.written ≡ as_text (instances (config_of words s))
         = sym (append-nil w.written) ∙ ap (λ (t : List (List ℕ)). w.written ++ as_text t) (sym e) ∙ w.whole in
-        subst (λ (t : List ℕ). Puts t out₀ from out at) l w.puts
+        w.text ∙ ap (λ (t : List ℕ). before ++ t) l
 
     module _ (o : Listable words s) where
       -- the plans behind plan j have higher ids
@@ -131,17 +129,8 @@ module _ (words : List ℕ) (s : Scalars) where
           rw (atoms_from i h) (insert_below (plan_line (plan_at words j)) (atom_line (atom_at words i)) (plan_lines (j + 1)) (atom_lines (i + 1)) above (omega arith)))
           (le_or_lt s.atoms i))
 
-      pub listed_atom : (left : List ℕ) (r : ℕ) → is_atom_next words s i j ≡ true → Puts (line (atom_line (atom_at words i))) out at left r → r ≤ at + 36 → Listed out₀ from left r (i + 1) j
-      listed_atom left r t p h = let a = next_atom words s i j t in more _ left r (i + 1) j (omega arith) w.some_plans (omega arith) (atom_stands_first t) p h
+      pub listed_atom : (left : List ℕ) → is_atom_next words s i j ≡ true → left ≡ out ++ line (atom_line (atom_at words i)) → length left ≤ length out + 36 → Listed before left (i + 1) j
+      listed_atom left t p h = let a = next_atom words s i j t in more _ left (i + 1) j (omega arith) w.some_plans (omega arith) (atom_stands_first t) p h
 
-      pub listed_plan : (left : List ℕ) (r : ℕ) → i + j < s.atoms + s.plans → is_atom_next words s i j ≡ false → Puts (line (plan_line (plan_at words j))) out at left r → r ≤ at + 36 → Listed out₀ from left r i (j + 1)
-      listed_plan left r n t p h = let a = next_plan words s i j t n w.some_plans w.some_atoms in more _ left r i (j + 1) w.some_atoms (omega arith) (omega arith) (plan_stands_first t n) p h
-
--- the names, then the instances, from the first place on
-pub listing_put : (c : Config) {out o₁ o₂ : List ℕ} {r₁ r₂ : ℕ} → Puts (bytes "kind id p a b sub\n") out 0 o₁ r₁ → Puts (as_text (instances c)) o₁ r₁ o₂ r₂ → r₂ ≤ length out
-    → (o₂ ≡ listing c ++ drop r₂ out) × (r₂ ≡ length (listing c))
-unfolding listing
-listing_put c {out} p q h =
-    let w : Puts (listing c) out 0 _ _ = puts_then out 0 p q in
-    let e = w.behind in
-    (puts_first h w, omega arith)
+      pub listed_plan : (left : List ℕ) → i + j < s.atoms + s.plans → is_atom_next words s i j ≡ false → left ≡ out ++ line (plan_line (plan_at words j)) → length left ≤ length out + 36 → Listed before left i (j + 1)
+      listed_plan left n t p h = let a = next_plan words s i j t n w.some_plans w.some_atoms in more _ left i (j + 1) w.some_atoms (omega arith) (omega arith) (plan_stands_first t n) p h

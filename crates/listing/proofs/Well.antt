@@ -31,7 +31,6 @@ module _ (program words : List ℕ) (s : Scalars) (w : WellWords program words s
 
   pub listable : Listable words s
   listable = record {
-    long = w.long;
     few_atoms = (whole program words s w).few_atoms;
     few_plans = (whole program words s w).few_plans;
     plans_rise = sound_plans_rise words s (sound_graph program words s w);

@@ -1,14 +1,8 @@
--- What the writers of a listing leave in the buffer, and what they need of the words.
+-- A line of a listing, the order of its lines, and what it needs of the words.
 use Rattle.std.specs.Prelude.{◌≡◌, Bool, true, false, ◌≢◌, List, [], ◌∷◌, ◌++◌, map, ℕ, ◌+◌, ◌<◌, ◌≤◌, leb, ltb, length, if◌then◌else◌}
-use Rattle.std.proofs.lemmas.List.Edits.{sets}
 use Rattle.model.specs.Render.{spaced}
 use Rattle.state.specs.declared.Scalars.{Scalars}
 use Rattle.state.specs.View.{atom_at, plan_at, PlansRise}
-
--- the bytes stand in the buffer from place `at` on, all else is as it was, and r is the place behind them
-pub record Puts (bytes out : List ℕ) (at : ℕ) (left : List ℕ) (r : ℕ) : Type 0 where
-  pub text : left ≡ sets out at bytes
-  pub behind : r ≡ at + length bytes
 
 -- one line of numbers, as `as_text` has it
 unfoldable pub line : List ℕ → List ℕ
@@ -20,7 +14,6 @@ is_atom_next words s i j = if leb s.atoms i then false else if leb s.plans j the
 
 -- What the listing needs of the words. Well-formed ones have it: `listable` of proofs/Well.
 pub record Listable (words : List ℕ) (s : Scalars) : Type 0 where
-  pub long : length words ≡ 2432
   pub few_atoms : s.atoms ≤ 256
   pub few_plans : s.plans ≤ 64
   pub plans_rise : PlansRise s.plans words

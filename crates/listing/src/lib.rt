@@ -1,104 +1,90 @@
-// The listing of a configuration, as bytes into a lent buffer.
+// The listing of a configuration, as bytes of a page.
 #![tactic(auto)]
 
-ghost use Rattle.std.specs.Prelude.{◌≡◌, [], ◌∷◌, ◌++◌, ◌+◌, ◌<◌, ◌≤◌, length, drop};
+ghost use Rattle.std.specs.Prelude.{◌≡◌, [], ◌∷◌, ◌++◌, ◌+◌, ◌<◌, ◌≤◌, length};
+ghost use Rattle.arrayvec.specs.ArrayVec.{array_vec_len};
 ghost use Rattle.model.specs.Render.{decimal};
-ghost use Rattle.model.specs.Run.{atom_line, plan_line, instances, as_text, listing as listing-of, refusal};
+ghost use Rattle.model.specs.Run.{atom_line, plan_line, instances, as_text, listing as listing-of, refusal as refusal-of};
 ghost use Rattle.state.specs.View.{atom_at, plan_at, config_of};
-ghost use Rattle.listing.specs.Listing.{Puts, line, is_atom_next, Listable};
+ghost use Rattle.listing.specs.Listing.{line, is_atom_next, Listable};
 
-use state::Scalars;
+use arrayvec::ArrayVec;
+use state::{Scalars, Words};
 
-// One byte; the place behind it.
-fn put_byte(out: &mut [u8], at: usize, byte: u8) -> usize
-    requires { at < length out.old }
-    ensures { Puts (byte ∷ []) out.old at out.new result }
+// More than a listing fills: its first line, and at most 320 lines of at most 36 bytes.
+pub type Page = ArrayVec<u8, 16384>;
+
+fn put_bytes(out: &mut Page, bytes: &[u8])
+    requires { array_vec_len out.old + length bytes.now ≤ 16384 }
+    ensures { out.new.items ≡ out.old.items ++ bytes.now }
 {
-    out[at] = byte;
-    at + 1
-}
-
-// Bytes, one after the other.
-fn put_bytes(out: &mut [u8], at: usize, bytes: &[u8]) -> usize
-    requires { at + length bytes.now ≤ length out.old }
-    ensures { Puts bytes.now out.old at out.new result }
-{
-    let mut next = at;
-    let mut k: usize = 0;
-    while k < bytes.len() {
-        next = put_byte(out, next, bytes[k]);
-        k += 1;
-    }
-    next
+    out.try_extend_from_slice(bytes).unwrap();
 }
 
 // "Integers are in base ten": a number of at most so many digits, the digits before the last, then the last.
-fn put_decimal(out: &mut [u8], at: usize, n: u32, digits: usize) -> usize
-    requires { at + digits ≤ length out.old }
-    ensures { Puts (decimal digits n) out.old at out.new result }
+fn put_decimal(out: &mut Page, n: u32, digits: usize)
+    requires { array_vec_len out.old + digits ≤ 16384 }
+    ensures { out.new.items ≡ out.old.items ++ decimal digits n }
 {
     if digits == 0 {
-        return at;
+        return;
     }
     if n < 10 {
-        return put_byte(out, at, n as u8 + 48);
+        return out.push(n as u8 + 48);
     }
-    let next = put_decimal(out, at, n / 10, digits - 1);
-    put_byte(out, next, (n % 10) as u8 + 48)
+    put_decimal(out, n / 10, digits - 1);
+    out.push((n % 10) as u8 + 48);
 }
 
 // A number and the byte that ends it.
-fn put_number(out: &mut [u8], at: usize, n: u32, end: u8) -> usize
-    requires { at + 6 ≤ length out.old }
-    ensures puts { Puts (decimal 5 n ++ (end ∷ [])) out.old at out.new result }
-    ensures short { result ≤ at + 6 }
+fn put_number(out: &mut Page, n: u32, end: u8)
+    requires { array_vec_len out.old + 6 ≤ 16384 }
+    ensures puts { out.new.items ≡ out.old.items ++ (decimal 5 n ++ (end ∷ [])) }
+    ensures short { array_vec_len out.new ≤ array_vec_len out.old + 6 }
 {
-    let next = put_decimal(out, at, n, 5);
-    put_byte(out, next, end)
+    put_decimal(out, n, 5);
+    out.push(end);
 }
 
 // A line of six numbers, one space between, ended by byte 10.
-fn put_line(out: &mut [u8], at: usize, numbers: [u32; 6]) -> usize
-    requires { at + 36 ≤ length out.old }
-    ensures puts { Puts (line numbers) out.old at out.new result }
-    ensures short { result ≤ at + 36 }
+fn put_line(out: &mut Page, numbers: [u32; 6])
+    requires { array_vec_len out.old + 36 ≤ 16384 }
+    ensures puts { out.new.items ≡ out.old.items ++ line numbers }
+    ensures short { array_vec_len out.new ≤ array_vec_len out.old + 36 }
 {
-    let mut next = at;
-    let mut k: usize = 0;
-    while k < 5 {
-        next = put_number(out, next, numbers[k], 32);
-        k += 1;
+    for k in 0..5 {
+        put_number(out, numbers[k], 32);
     }
-    put_number(out, next, numbers[5], 10)
+    put_number(out, numbers[5], 10);
 }
 
 // "kind 1 atom (sub 0)"
-fn put_atom(words: &[u32], k: usize, out: &mut [u8], at: usize) -> usize
-    requires { (length words.now ≡ 2432) × (k < 256) × (at + 36 ≤ length out.old) }
-    ensures puts { Puts (line (atom_line (atom_at words.now k))) out.old at out.new result }
-    ensures short { result ≤ at + 36 }
+fn put_atom(words: &Words, k: usize, out: &mut Page)
+    requires { (k < 256) × (array_vec_len out.old + 36 ≤ 16384) }
+    ensures puts { out.new.items ≡ out.old.items ++ line (atom_line (atom_at words.now k)) }
+    ensures short { array_vec_len out.new ≤ array_vec_len out.old + 36 }
 {
     let x = state::atom_at(words, k);
-    put_line(out, at, [1, x.id, x.p, x.a, x.b, 0])
+    put_line(out, [1, x.id, x.p, x.a, x.b, 0]);
 }
 
 // "kind 2 plan (set, rule, steps left, subgoal id or 0)"
-fn put_plan(words: &[u32], k: usize, out: &mut [u8], at: usize) -> usize
-    requires { (length words.now ≡ 2432) × (k < 64) × (at + 36 ≤ length out.old) }
-    ensures puts { Puts (line (plan_line (plan_at words.now k))) out.old at out.new result }
-    ensures short { result ≤ at + 36 }
+fn put_plan(words: &Words, k: usize, out: &mut Page)
+    requires { (k < 64) × (array_vec_len out.old + 36 ≤ 16384) }
+    ensures puts { out.new.items ≡ out.old.items ++ line (plan_line (plan_at words.now k)) }
+    ensures short { array_vec_len out.new ≤ array_vec_len out.old + 36 }
 {
     let id = state::plan_id(words, k);
     let set = state::plan_set(words, k);
     let rule = state::plan_rule(words, k);
     let left = state::plan_left(words, k);
     let subgoal = state::plan_subgoal(words, k);
-    put_line(out, at, [2, id, set, rule, left, subgoal])
+    put_line(out, [2, id, set, rule, left, subgoal]);
 }
 
 // Of atoms from i on and plans from j on the lowest id is atom i's.
-fn is_atom_next(words: &[u32], scalars: Scalars, i: usize, j: usize) -> bool
-    requires { (length words.now ≡ 2432) × (scalars.atoms ≤ 256) × (scalars.plans ≤ 64) }
+fn is_atom_next(words: &Words, scalars: Scalars, i: usize, j: usize) -> bool
+    requires { (scalars.atoms ≤ 256) × (scalars.plans ≤ 64) }
     ensures { result ≡ is_atom_next words.now scalars i j }
 {
     if scalars.atoms as usize <= i {
@@ -112,43 +98,39 @@ fn is_atom_next(words: &[u32], scalars: Scalars, i: usize, j: usize) -> bool
     x.id < plan
 }
 
-// "live instances by id": at most 320 lines of at most 36 bytes.
-fn put_instances(words: &[u32], scalars: Scalars, out: &mut [u8], at: usize) -> usize
-    requires { Listable words.now scalars × (at + 11520 ≤ length out.old) }
-    ensures puts { Puts (as_text (instances (config_of words.now scalars))) out.old at out.new result }
-    ensures short { result ≤ at + 11520 }
+// "live instances by id": of the first k, i are atoms.
+fn put_instances(words: &Words, scalars: Scalars, out: &mut Page)
+    requires { Listable words.now scalars × (array_vec_len out.old + 11520 ≤ 16384) }
+    ensures { out.new.items ≡ out.old.items ++ as_text (instances (config_of words.now scalars)) }
 {
-    let count = scalars.atoms as usize + scalars.plans as usize;
-    let mut next = at;
     let mut i: usize = 0;
-    let mut j: usize = 0;
-    while i + j < count {
-        if is_atom_next(words, scalars, i, j) {
-            next = put_atom(words, i, out, next);
+    for k in 0..scalars.atoms as usize + scalars.plans as usize {
+        if is_atom_next(words, scalars, i, k - i) {
+            put_atom(words, i, out);
             i += 1;
         } else {
-            next = put_plan(words, j, out, next);
-            j += 1;
+            put_plan(words, k - i, out);
         }
     }
-    next
 }
 
-// "prints `kind id p a b sub`, then live instances by id": into the first bytes of a lent buffer; how many there are.
-pub fn put_listing(words: &[u32], scalars: Scalars, out: &mut [u8]) -> usize
-    requires { Listable words.now scalars × (16384 ≤ length out.old) }
-    ensures out_after { out.new ≡ listing-of (config_of words.now scalars) ++ drop result out.old }
-    ensures length { result ≡ length (listing-of (config_of words.now scalars)) }
+// "prints `kind id p a b sub`, then live instances by id"
+pub fn listing(words: &Words, scalars: Scalars) -> Page
+    requires { Listable words.now scalars }
+    ensures { result.items ≡ listing-of (config_of words.now scalars) }
 {
-    let next = put_bytes(out, 0, b"kind id p a b sub\n");
-    put_instances(words, scalars, out, next)
+    let mut out = Page::new();
+    put_bytes(&mut out, b"kind id p a b sub\n");
+    put_instances(words, scalars, &mut out);
+    out
 }
 
-// "A refused call prints its number alone instead."
-pub fn put_refusal(number: u32, out: &mut [u8]) -> usize
-    requires { 6 ≤ length out.old }
-    ensures out_after { out.new ≡ refusal number ++ drop result out.old }
-    ensures length { result ≡ length (refusal number) }
+// "A refused call prints its number alone instead." kept: any number, as whoever has it from outside may print it.
+#[tactic(auto, using(crate::proofs::Lines::refusal_is))]
+pub fn refusal(number: u32) -> Page
+    ensures { result.items ≡ refusal-of number }
 {
-    put_number(out, 0, number, 10)
+    let mut out = Page::new();
+    put_number(&mut out, number, 10);
+    out
 }

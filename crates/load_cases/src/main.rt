@@ -1,68 +1,48 @@
 // Texts, whole and damaged, and what a load answers to each: a line `case number line rows atoms`.
 #![tactic(auto)]
 
+use arrayvec::ArrayVec;
 use itoa::Buffer;
 use state::Config;
 use std::io;
 
-// Puts the piece behind the first bytes of a text, as far as there is room, and answers how many there are then.
-fn append(text: &mut [u8; 16384], at: usize, piece: &[u8]) -> usize {
-    let mut n = at;
-    let mut i: usize = 0;
-    while i < piece.len() {
-        if n >= 16384 {
-            return n;
+type Text = ArrayVec<u8, 16384>;
+
+// Puts the piece behind a text, as far as there is room.
+fn append(text: &mut Text, piece: &[u8]) {
+    for byte in piece {
+        if text.try_push(*byte).is_err() {
+            return;
         }
-        text[n] = piece[i];
-        n += 1;
-        i += 1;
     }
-    n
 }
 
-fn append_number(text: &mut [u8; 16384], at: usize, x: u64) -> usize {
+fn append_number(text: &mut Text, x: u64) {
     let mut digits = Buffer::new();
-    append(text, at, digits.format(x).as_bytes())
+    append(text, digits.format(x).as_bytes());
 }
 
-fn append_times(text: &mut [u8; 16384], at: usize, times: u64, piece: &[u8]) -> usize {
-    let mut n = at;
-    let mut k: u64 = 0;
-    while k < times {
-        n = append(text, n, piece);
-        k += 1;
+fn append_times(text: &mut Text, times: u64, piece: &[u8]) {
+    for _ in 0..times {
+        append(text, piece);
     }
-    n
 }
 
 // A rule of one reason.
-fn append_rule(text: &mut [u8; 16384], at: usize, set: u64, rule: u64) -> usize {
-    let with_set = append_number(text, at, set);
-    let spaced = append(text, with_set, b" ");
-    let with_rule = append_number(text, spaced, rule);
-    append(text, with_rule, b" 1 1 -1 1 -2 -3\n")
+fn append_rule(text: &mut Text, set: u64, rule: u64) {
+    append_number(text, set);
+    append(text, b" ");
+    append_number(text, rule);
+    append(text, b" 1 1 -1 1 -2 -3\n");
 }
 
-// Rules from 1 on in a set.
-fn append_rules(text: &mut [u8; 16384], at: usize, set: u64, rules: u64) -> usize {
-    let mut n = at;
-    let mut k: u64 = 0;
-    while k < rules {
-        n = append_rule(text, n, set, k + 1);
-        k += 1;
+// Sets from 1 on, each with rules from 1 on.
+fn append_sets(text: &mut Text, sets: u64, rules: u64) {
+    for set in 0..sets {
+        for rule in 0..rules {
+            append_rule(text, set + 1, rule + 1);
+        }
     }
-    n
-}
-
-// Sets from 1 on.
-fn append_sets(text: &mut [u8; 16384], at: usize, sets: u64, rules: u64) -> usize {
-    let mut n = at;
-    let mut k: u64 = 0;
-    while k < sets {
-        n = append_rules(text, n, k + 1, rules);
-        k += 1;
-    }
-    n
 }
 
 fn say(rt: &impl Print, x: u64, after: &str) -> io::Result<()> {
@@ -72,22 +52,20 @@ fn say(rt: &impl Print, x: u64, after: &str) -> io::Result<()> {
 // A text as it stands.
 fn whole(rt: &impl Print, case: u64, text: &[u8]) -> io::Result<()> {
     let mut program = [0u32; 4096];
-    let config = Config::fresh();
-    let r = loading::load(text, &mut program, config);
-    let scalars = r.config.scalars;
+    let mut config = Config::fresh();
+    let loaded = loading::load(text, &mut program, &mut config);
     say(rt, case, " ")?;
-    say(rt, r.number as u64, " ")?;
-    say(rt, r.line as u64, " ")?;
-    say(rt, r.rows as u64, " ")?;
-    say(rt, scalars.atoms as u64, "\n")
-}
-
-// The first bytes of a text.
-fn first(rt: &impl Print, case: u64, text: [u8; 16384], n: usize) -> io::Result<()> {
-    if n <= 16384 {
-        whole(rt, case, &text[..n])?;
+    match loaded {
+        Ok(rows) => {
+            print!(rt; "0 0 ")?;
+            say(rt, rows as u64, " ")?;
+        }
+        Err(error) => {
+            say(rt, error.refusal.number() as u64, " ")?;
+            say(rt, error.line as u64, " 0 ")?;
+        }
     }
-    Ok(())
+    say(rt, config.scalars.atoms as u64, "\n")
 }
 
 // The names line, then these rows: the first row is line 2.
@@ -104,12 +82,12 @@ fn many(
     piece: &[u8],
     after: &[u8],
 ) -> io::Result<()> {
-    let mut text = [0u8; 16384];
-    let named = append(&mut text, 0, b"set rule part op i p a b\n");
-    let begun = append(&mut text, named, before);
-    let filled = append_times(&mut text, begun, times, piece);
-    let n = append(&mut text, filled, after);
-    first(rt, case, text, n)
+    let mut text = Text::new();
+    append(&mut text, b"set rule part op i p a b\n");
+    append(&mut text, before);
+    append_times(&mut text, times, piece);
+    append(&mut text, after);
+    whole(rt, case, text.as_slice())
 }
 
 // The names line, rows of set 0, then sets of rules of one reason each.
@@ -122,12 +100,12 @@ fn sets(
     sets: u64,
     rules: u64,
 ) -> io::Result<()> {
-    let mut text = [0u8; 16384];
-    let named = append(&mut text, 0, b"set rule part op i p a b\n");
-    let begun = append(&mut text, named, before);
-    let filled = append_times(&mut text, begun, times, piece);
-    let n = append_sets(&mut text, filled, sets, rules);
-    first(rt, case, text, n)
+    let mut text = Text::new();
+    append(&mut text, b"set rule part op i p a b\n");
+    append(&mut text, before);
+    append_times(&mut text, times, piece);
+    append_sets(&mut text, sets, rules);
+    whole(rt, case, text.as_slice())
 }
 
 // The names line: the very bytes, ended by byte 10.

@@ -60,21 +60,19 @@ module _ {words : List ℕ} {s : Scalars} {r : Row} (w : Room words s r) where
 -- The rows from k on are left: with their initial atoms the configuration is the fresh one.
 pub record Starting (program : List ℕ) (rows : ℕ) (words : List ℕ) (s : Scalars) (k : ℕ) : Type 0 where
   pub inside : k ≤ rows
-  pub long : length words ≡ 2432
   pub room : s.atoms + length (initial_atoms (rows_from program k (rows - k))) ≤ 256
   pub next : s.next ≡ s.atoms + 1
   pub so_far : with_initial (initial_atoms (rows_from program k (rows - k))) (config_of words s) ≡ fresh (rows_from program 0 rows)
 
 pub starting_begins : (program : List ℕ) (rows : ℕ) {words : List ℕ} {s : Scalars} →
-    length (initial_atoms (rows_from program 0 rows)) ≤ 256 → length words ≡ 2432 → config_of words s ≡ empty → Starting program rows words s 0
+    length (initial_atoms (rows_from program 0 rows)) ≤ 256 → config_of words s ≡ empty → Starting program rows words s 0
 unfolding fresh
-starting_begins program rows {words} {s} few long e =
+starting_begins program rows {words} {s} few e =
     let none : s.atoms ≡ 0 = sym (tabulate_length s.atoms (atom_at words)) ∙ ap (λ (c : Config). length c.atoms) e in
     let first : s.next ≡ 1 = ap (λ (c : Config). c.next) e in
     let all : rows - 0 ≡ rows = omega arith in
     record {
       inside = omega arith;
-      long = long;
       room = rw all (omega arith);
       next = omega arith;
       so_far = rw (all, e);
@@ -93,12 +91,11 @@ module _ {program : List ℕ} {rows : ℕ} {words : List ℕ} {s : Scalars} {k :
     long_left = ap length left ∙ length-append (initial_atoms (r ∷ [])) _
 
     pub row_room : Room words s r
-    row_room = let n = long_left in record { long = w.long; room = omega (arith, w.room); next = w.next }
+    row_room = let n = long_left in record { room = omega (arith, w.room); next = w.next }
 
-    pub row_taken : {after : List ℕ} {t : Scalars} → length after ≡ length words → Taken words s r after t → Starting program rows after t (k + 1)
-    row_taken same y = let n = long_left in record {
+    pub row_taken : {after : List ℕ} {t : Scalars} → Taken words s r after t → Starting program rows after t (k + 1)
+    row_taken y = let n = long_left in record {
       inside = omega arith;
-      long = same ∙ w.long;
       room = omega (arith, w.room, y.count);
       next = y.next;
       so_far = ap (with_initial (initial_atoms (rows_from program (k + 1) (rows - (k + 1))))) y.made ∙ sym (with_initial_append (initial_atoms (r ∷ [])) _ (config_of words s)) ∙ rw left at w.so_far;

@@ -23,8 +23,6 @@ use Rattle.program.specs.Loading as Loading
 use Rattle.program.specs.Loading.{Answer, loading, answer_of}
 use Rattle.program.proofs.Words.{length_words}
 use Rattle.program.proofs.Accepts.{Accepts, number_0, rows_of_words}
-use Rattle.state.specs.declared.Config.{Config}
-use Rattle.state.specs.View.{config_of}
 use Rattle.state.proofs.Room.{numbered}
 use Rattle.loading.specs.Starting.{started_from, starting, seen}
 
@@ -55,14 +53,12 @@ module _ (text lent : List ℕ) where
       go (refused n k) h = refl
 
   module _ (e : LoadError) (after : List ℕ) (q : Loading.seen (Err e) after ≡ loading text lent) where
-    pub refused_start : (config : Config) (n : ℕ) → n ≡ number_of e.refusal →
-        seen (record { config = config; number = n; line = e.line; rows = 0 }) after ≡ starting text lent (config_of config.words config.scalars)
+    pub refused_start : (c : Model.Config) → seen c (Err e) after ≡ starting text lent c
     unfolding Loading.seen seen starting
-    refused_start config n m =
+    refused_start c =
         let number : number_of e.refusal ≡ (loading text lent).number = ap (λ (a : Answer). a.number) q in
-        let same = kept (config_of config.words config.scalars) (λ z. numbered e.refusal (number ∙ z)) in
-        let answer = ap {B = Answer} (λ (k : ℕ). record { number = k; line = e.line; rows = 0; program = after }) m ∙ q in
-        λ i. record { answer = answer i; config = same i }
+        let same = kept c (λ z. numbered e.refusal (number ∙ z)) in
+        λ i. record { answer = q i; config = same i }
 
   module _ (r : ℕ) (after : List ℕ) (e : Loading.seen (Ok r) after ≡ loading text lent) where
     accepts : Accepts text lent
@@ -89,9 +85,8 @@ module _ (text lent : List ℕ) where
     pub few_initial : length (initial_atoms (rows_from after 0 r)) ≤ 256
     few_initial = rw rows_are lawful_rows.few_initial
 
-    pub accepted_start : (c : Model.Config) (s : Config) → config_of s.words s.scalars ≡ fresh (rows_from after 0 r) →
-        seen (record { config = s; number = 0; line = 0; rows = r }) after ≡ starting text lent c
+    pub accepted_start : (c d : Model.Config) → d ≡ fresh (rows_from after 0 r) → seen d (Ok r) after ≡ starting text lent c
     unfolding Loading.seen seen starting started_from
-    accepted_start c s q =
-        let same : config_of s.words s.scalars ≡ started_from c (load text) = q ∙ ap fresh rows_are ∙ ap (started_from c) (sym accepts.loads) in
+    accepted_start c d q =
+        let same : d ≡ started_from c (load text) = q ∙ ap fresh rows_are ∙ ap (started_from c) (sym accepts.loads) in
         λ i. record { answer = e i; config = same i }

@@ -1,14 +1,15 @@
 -- What a load answers, what it leaves in the lent program, and the configuration after it.
-use Rattle.std.specs.Prelude.{◌≡◌, List, [], ◌∷◌, ℕ, ◌+◌, ◌≤◌, length}
+use Rattle.std.specs.Prelude.{◌≡◌, List, [], ◌∷◌, ℕ, ◌+◌, ◌≤◌, length, Result}
 use Rattle.model.specs.declared.Row.{Row}
+use Rattle.model.specs.declared.refusal.LoadError.{LoadError}
 use Rattle.model.specs.Program.{initial_atoms}
 use Rattle.model.specs.Configuration.{Config, with_initial, fresh}
 use Rattle.model.specs.Load as Load
 use Rattle.model.specs.Load.{load, loaded, refused}
 use Rattle.program.specs.Loading.{Answer, loading}
+use Rattle.program.specs.Loading as Loading
 use Rattle.state.specs.declared.Scalars.{Scalars}
 use Rattle.state.specs.View.{config_of}
-use Rattle.loading.specs.declared.Started.{Started}
 
 -- the answer with the lent program afterwards, and the configuration
 pub record Start : Type 0 where
@@ -24,15 +25,11 @@ unfoldable pub starting : List ℕ → List ℕ → Config → Start
 starting text lent c = record { answer = loading text lent; config = started_from c (load text) }
 
 -- what is seen of a load: its answer, the lent program afterwards, and the configuration
-unfoldable pub seen : Started → List ℕ → Start
-seen r program = record {
-  answer = record { number = r.number; line = r.line; rows = r.rows; program = program };
-  config = config_of r.config.words r.config.scalars;
-}
+unfoldable pub seen : Config → Result ℕ LoadError → List ℕ → Start
+seen c r program = record { answer = Loading.seen r program; config = c }
 
 -- there is room for what the row adds; ids are given from 1 on
 pub record Room (words : List ℕ) (s : Scalars) (r : Row) : Type 0 where
-  pub long : length words ≡ 2432
   pub room : s.atoms + length (initial_atoms (r ∷ [])) ≤ 256
   pub next : s.next ≡ s.atoms + 1
 

@@ -98,14 +98,6 @@ of_row_more r a b set o j = record {
   at_b = λ h l. j.left (place r.b) (o.at_b h l);
 }
 
-pub of_row_right : (r : Row) (a b set : ℕ) → OfRow r b → Joined a b set → OfRow r set
-of_row_right r a b set o j = record {
-  small = j.small;
-  at_i = λ h l. j.right (place r.i) (o.at_i h l);
-  at_a = λ h l. j.right (place r.a) (o.at_a h l);
-  at_b = λ h l. j.right (place r.b) (o.at_b h l);
-}
-
 -- `a & b == 0`
 and_low : (a b : ℕ) → bit_and a b % 2 ≡ min (a % 2) (b % 2)
 and_low a b = low (bit_and a b) (bit_and (a / 2) (b / 2)) (min (a % 2) (b % 2)) (and_step a b) (let m = min-le_left (a % 2) (b % 2) in let h : a % 2 < 2 = mod-lt a (omega arith) in omega arith)

@@ -8,8 +8,8 @@ use Prim.Native.Nat.{ℕ, ◌+◌, ◌-◌, ◌/◌, ◌≤◌, ◌<◌}
 use native.Mathlib.Omega.{arith}
 use lib.Dec.{eqb, ltb}
 use lib.ListN.{length, length-append}
-use borrow.Author.Tests.{eqb-true, eq-eqb, ne_eqb, ltb-true, ltb-false, le-ltb}
-use Rattle.lists.specs.Lists.{In, keep, when, first_of, is_empty, bind}
+use borrow.Author.Tests.{eqb-true, ne_eqb, ltb-true, ltb-false, le-ltb}
+use Rattle.lists.specs.Lists.{In, keep, first_of, is_empty, bind}
 use Rattle.lists.proofs.Lists.{clash, keep_in, count_keep}
 use Rattle.lists.proofs.Bind.{keep_append}
 use Rattle.lists.proofs.Splits.{keep_none}
@@ -25,7 +25,6 @@ use Rattle.spans.specs.Spans.{Bound}
 use Rattle.spans.proofs.Spans.{bounds_rise, span_is}
 use Rattle.state.specs.declared.Scalars.{Scalars}
 use Rattle.state.specs.View.{config_of}
-use Rattle.queries.specs.View.{found_in, found_of}
 use Rattle.queries.specs.Answers.{answers}
 use Rattle.matching.specs.declared.Rule.{Rule}
 use Rattle.queries.specs.declared.Bindings.{Bindings}

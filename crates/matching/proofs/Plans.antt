@@ -1,6 +1,6 @@
 -- The test for an equal plan: ids put into rising order, lists compared place by place, the values of a body's variables.
 use mathlib.Core.Path.{◌≡◌, refl, sym, ap, ◌∙◌}
-use mathlib.Core.Bool.{Bool, true, false, ◌&&◌, and_assoc, and-eq-true_iff, false≢true}
+use mathlib.Core.Bool.{Bool, true, false, ◌&&◌, and_assoc, false≢true}
 use mathlib.Core.Logic.{◌≢◌, ⊎_elim}
 use mathlib.Core.List.{List, [], ◌∷◌, ◌++◌}
 use Prim.Native.Nat.{ℕ, zero, suc, ◌+◌, ◌-◌, ◌≤◌, ◌<◌}
@@ -9,14 +9,14 @@ use native.Mathlib.Omega.{arith}
 use lib.Dec.{eqb, ltb}
 use lib.ListN.{length, take, drop, get_or, set, length-set, drop_of_length-le, take-append-drop, get_or-eq_default}
 use lib.Seq.{take-take, take-set-lt, drop-set-lt, take-suc, get_or-take, get_or-set_other, length-take-le, ext_get_or}
-use borrow.Author.Tests.{eq-eqb, eqb-true, ne_eqb, lt-ltb, le-ltb, ltb-true, ltb-false}
+use borrow.Author.Tests.{eq-eqb, ne_eqb, lt-ltb, le-ltb, ltb-true, ltb-false}
 use Rattle.lists.specs.Lists.{In, Pairs, first, insert, rising_set, same, some}
 use Rattle.lists.specs.Tables.{tabulate, trimmed}
 use Rattle.lists.proofs.Lists.{test}
 use Rattle.lists.proofs.Tests.{and2, same_equal}
 use Rattle.lists.proofs.Tables.{tabulate_length, tabulate_from, get_within}
 use Rattle.lists.proofs.Bind.{append_assoc}
-use Rattle.lists.proofs.Cuts.{drop_next}
+use Rattle.lists.proofs.Cuts.{drop_next, within_in, within_below, within_above}
 use Rattle.lists.proofs.RisingSet.{rising_set_rises}
 use Rattle.lists.proofs.Search.{trimmed_front}
 use Rattle.model.specs.declared.Row.{Row}
@@ -114,9 +114,6 @@ module _ (n : ℕ) (l : List ℕ) (count : ℕ) (ids : List ℕ) (carried j : �
       let e : j ≡ count = omega arith in
       one_more ids count carried (omega arith)
       ∙ sym (s.is ∙ rw (e, drop_of_length-le (take count ids) {i = count} (let z = front_long in omega arith)))
-
-  pub end_zeros : (k : ℕ) → count + 1 ≤ k → get_or (set ids count carried) k 0 ≡ 0
-  end_zeros k h = get_or-set_other ids count k carried 0 (λ (q : k ≡ count). omega arith) ∙ s.zeros k (omega arith)
 
 -- ids from the last matched to the first: a rising set of those from j on
 pub record Sorted (matched : List ℕ) (count : ℕ) (l : Ids) (j : ℕ) : Type 0 where
@@ -222,6 +219,11 @@ module _ (f : Plan → Bool) (n : ℕ) (plan : ℕ → Plan) (k : ℕ) where
   pub some_end : n ≤ k → some f (drop k (tabulate n plan)) ≡ false
   unfolding some
   some_end h = let e = tabulate_length n plan in rw (drop_of_length-le (tabulate n plan) {i = k} (omega arith))
+
+pub ruleset some_plans = (some_here, some_next, some_end)
+
+-- an operand is a variable or none, and a variable has a place
+pub ruleset operand_places = (get_within, within_in, within_below, within_above)
 
 -- ids that are not 0 are as a plan holds them
 pub ids_trimmed : (l : Ids) → Padded l → ((x : ℕ) → In x (ids_of l) → x ≢ 0) → trimmed l.ids ≡ ids_of l

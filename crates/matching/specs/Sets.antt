@@ -1,9 +1,9 @@
 -- What a failure hangs on. Whether the rows from k on have a match that counts is decided by a few variables, and perhaps by the ids that the
 -- reasons matched. A search that fails answers with those, as a set; whatever else was found, the same rows fail again, so every way back
 -- that changes none of them need not be tried.
-use Rattle.std.specs.Prelude.{◌≡◌, true, false, ◌⊎◌, ◌≢◌, List, [], ℕ, ◌-◌, ◌≤◌, ◌<◌, length, Some, Result, MatchResult}
+use Rattle.std.specs.Prelude.{◌≡◌, true, false, ◌⊎◌, ◌≢◌, List, [], ℕ, ◌-◌, ◌≤◌, ◌<◌, Some, Result, MatchResult}
 use Rattle.table.specs.Rows.{row}
-use Rattle.nogoods.specs.Nogoods.{has, all_sets, width, places, size, rest_in, set_in, values_in, count_in, ids_in}
+use Rattle.nogoods.specs.Nogoods.{has, all_sets, width, places, rest_in, set_in, values_in, count_in, ids_in}
 use Rattle.model.specs.declared.Row.{Row}
 use Rattle.model.specs.Configuration.{no_value, place, value_of}
 use Rattle.model.specs.Matching.{Found, negation}
@@ -86,7 +86,6 @@ True program words s rule e = rest_in e ≢ 0 → Barren program words s rule (r
 
 -- every nogood of a table is
 pub record Remembered (program words : List ℕ) (s : Scalars) (rule : Rule) (table : List ℕ) : Type 0 where
-  pub long : length table ≡ size
   pub holds : (i : ℕ) → i < places → True program words s rule (row width table i)
 
 -- the answer of a long search: the ids that its match matched, or the set on which its failure hangs

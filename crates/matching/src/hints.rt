@@ -8,7 +8,7 @@ ghost use Rattle.queries.specs.View.{Limits};
 
 use crate::sets;
 use model::Row;
-use state::Scalars;
+use state::{Scalars, Words};
 
 // The most rows to go that a hint is made for, and one.
 const ROWS: usize = 16;
@@ -147,7 +147,7 @@ fn key(r: Row, a: u32, b: u32) -> u32
 }
 
 // Whether half of the atoms that a row asks for give its variables the values that another gave. An id is given once.
-fn repeats(words: &[u32], s: Scalars, r: Row) -> bool
+fn repeats(words: &Words, s: Scalars, r: Row) -> bool
     requires { Limits words.now s }
 {
     if (r.op != 1) | (r.i != 0) {
@@ -174,7 +174,7 @@ fn repeats(words: &[u32], s: Scalars, r: Row) -> bool
 // The hints of a rule whose rows stand from start up to its body.
 pub fn of_rule<'a>(
     program: &'a [u32],
-    words: &'a [u32],
+    words: &'a Words,
     s: Scalars,
     start: usize,
     body: usize,

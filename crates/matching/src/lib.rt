@@ -2,24 +2,22 @@
 #![tactic(auto)]
 
 pub mod hints;
+pub mod long;
 pub mod sets;
 
-ghost use Rattle.std.specs.Prelude.{◌≡◌, true, ◌&&◌, ◌⊎◌, ◌+◌, ◌-◌, ◌/◌, ◌<◌, ◌≤◌, eqb, length, take, option_to_list, option_map, None, Ok, IfSome, IfOk, IfErr};
-ghost use Rattle.lists.specs.Lists.{Pairs, insert as inserted, rising_set as rising-set-of, same, bind};
+ghost use Rattle.std.specs.Prelude.{◌≡◌, true, ◌&&◌, ◌+◌, ◌/◌, ◌<◌, ◌≤◌, eqb, length, take, option_to_list, option_map, None, Ok, IfSome, IfOk};
+ghost use Rattle.lists.specs.Lists.{Pairs, insert as inserted, rising_set as rising-set-of, same};
 ghost use Rattle.model.specs.Matching.{nothing_found, body_value, body_values, justifications_of, equal_plan, counts as counts_of, firing};
-ghost use Rattle.program.specs.Rows.{row_at, rows_of};
+ghost use Rattle.program.specs.Rows.{rows_of};
 ghost use Rattle.program_laws.specs.Lawful.{Lawful};
 ghost use Rattle.state.specs.View.{plan_at, config_of};
-ghost use Rattle.nogoods.specs.Nogoods.{size, nogood, Replaced};
-ghost use Rattle.queries.specs.View.{found_in, found_of, Limits, Sized, Kept};
-ghost use Rattle.queries.specs.Answers.{answers};
-ghost use Rattle.filters.specs.Filters.{Marked};
+ghost use Rattle.queries.specs.View.{found_in, found_of, Limits, Kept};
 ghost use Rattle.matching.specs.Rules.{rows_between, reasons_in, Located, counted, Searched, ids_of, Padded, agrees_in, choice_of, Chosen};
-ghost use Rattle.matching.specs.Sets.{OfBody, Barren, Remembered, LongSearched};
 
+pub use long::search_long;
 use model::Row;
 use queries::Bindings;
-use state::Scalars;
+use state::{Scalars, Words};
 
 // How many rows a rule's search may try before it goes the long way, which has tables to make first, and then leaves most rows early.
 const FUEL: u32 = 100;
@@ -29,6 +27,7 @@ const FUEL: u32 = 100;
 #[derive(Clone, Copy)]
 pub struct Rule {
     pub set: u32,
+    // kept: the new form is no plainer (the rule's own number, no kind)
     pub number: u32,
     pub body: usize,
     pub end: usize,
@@ -54,6 +53,7 @@ pub struct Choice {
 pub struct GaveUp;
 
 // A number into rising ids, once: each greater one gives way to the one before it.
+#[tactic(auto, using(crate::proofs::Plans::there, crate::proofs::Plans::at_end))]
 fn insert(n: u32, l: Ids) -> Ids
     requires { (l.count < 4) × Pairs (λ x y. x < y) (ids_of l) × Padded l }
     ensures is { ids_of result ≡ inserted n (ids_of l) }
@@ -81,6 +81,7 @@ fn insert(n: u32, l: Ids) -> Ids
 }
 
 // "justifications (ids its reasons matched, each once)", in rising order.
+#[tactic(auto, using(crate::proofs::Plans::sorted_none, crate::proofs::Plans::sorted_rises, crate::proofs::Plans::sorted_next))]
 pub fn rising_set(matched: [u32; 4], count: usize) -> Ids
     requires { count ≤ 4 }
     ensures is { ids_of result ≡ rising-set-of (take count matched) }
@@ -98,8 +99,9 @@ pub fn rising_set(matched: [u32; 4], count: usize) -> Ids
 }
 
 // "the same set of justifications": plan k's.
-fn same_justifications(words: &[u32], k: usize, l: Ids) -> bool
-    requires { (length words.now ≡ 2432) × (k < 64) × (l.count ≤ 4) }
+#[tactic(auto, using(crate::proofs::Plans::same_longer, crate::proofs::Plans::same_end, crate::proofs::Plans::same_next, crate::proofs::Plans::same_not))]
+fn same_justifications(words: &Words, k: usize, l: Ids) -> bool
+    requires { (k < 64) × (l.count ≤ 4) }
     ensures { result ≡ same (plan_at words.now k).justifications (ids_of l) }
 {
     let n = queries::candidates::justification_count(words, k);
@@ -117,8 +119,9 @@ fn same_justifications(words: &[u32], k: usize, l: Ids) -> bool
 }
 
 // "the same values of the variables in its body": of one operand.
-fn same_value(words: &[u32], k: usize, x: u32, values: [u32; 8]) -> bool
-    requires { (length words.now ≡ 2432) × (k < 64) }
+#[tactic(auto, unfolding(model::specs::Matching::body_value), using(crate::proofs::Plans::operand_places))]
+fn same_value(words: &Words, k: usize, x: u32, values: [u32; 8]) -> bool
+    requires { k < 64 }
     ensures { result ≡ eqb (body_value (plan_at words.now k).values x) (body_value values x) }
 {
     if x == 0 {
@@ -132,8 +135,8 @@ fn same_value(words: &[u32], k: usize, x: u32, values: [u32; 8]) -> bool
 }
 
 // Of a row.
-fn same_row(words: &[u32], k: usize, r: Row, values: [u32; 8]) -> bool
-    requires { (length words.now ≡ 2432) × (k < 64) }
+fn same_row(words: &Words, k: usize, r: Row, values: [u32; 8]) -> bool
+    requires { k < 64 }
     ensures { result ≡ (eqb (body_value (plan_at words.now k).values r.i) (body_value values r.i)
         && (eqb (body_value (plan_at words.now k).values r.a) (body_value values r.a)
         && eqb (body_value (plan_at words.now k).values r.b) (body_value values r.b))) }
@@ -145,15 +148,16 @@ fn same_row(words: &[u32], k: usize, r: Row, values: [u32; 8]) -> bool
 }
 
 // Of the rows of a body.
+#[tactic(auto, using(crate::proofs::Plans::body_end, crate::proofs::Plans::body_next, crate::proofs::Plans::body_not))]
 fn same_values<'a>(
     program: &'a [u32],
-    words: &'a [u32],
+    words: &'a Words,
     k: usize,
     from: usize,
     to: usize,
     values: [u32; 8],
 ) -> bool
-    requires { (to ≤ length program.now / 8) × (length words.now ≡ 2432) × (k < 64) }
+    requires { (to ≤ length program.now / 8) × (k < 64) }
     ensures { result ≡ same (body_values (rows_between program.now from to) (plan_at words.now k).values)
         (body_values (rows_between program.now from to) values) }
 {
@@ -167,28 +171,30 @@ fn same_values<'a>(
 }
 
 // All eight values of plan k are these.
-fn values_agree(words: &[u32], k: usize, values: [u32; 8]) -> bool
-    requires { (length words.now ≡ 2432) × (k < 64) }
+#[tactic(auto, using(crate::proofs::Plans::agreed_values, state::proofs::View::values_long))]
+fn values_agree(words: &Words, k: usize, values: [u32; 8]) -> bool
+    requires { k < 64 }
     ensures { result ≡ true → (plan_at words.now k).values ≡ values }
 {
+    let mut same = true;
+    // without a branch, as the search is through it at every step
     for i in 0..8 {
-        if state::plan_value(words, k, i) != values[i] {
-            return false;
-        }
+        same = same & (state::plan_value(words, k, i) == values[i]);
     }
-    true
+    same
 }
 
 // "the same set and rule, the same set of justifications .. and the same values of the variables in its body": plan k.
+#[tactic(auto, unfolding(model::specs::Matching::equal_plan), using(lists::proofs::Tests::same_self))]
 fn equal_plan<'a>(
     program: &'a [u32],
-    words: &'a [u32],
+    words: &'a Words,
     rule: Rule,
     k: usize,
     l: Ids,
     f: Bindings,
 ) -> bool
-    requires { Located program.now rule × (length words.now ≡ 2432) × (k < 64) × (l.count ≤ 4) × (ids_of l ≡ justifications_of (found_of f)) }
+    requires { Located program.now rule × (k < 64) × (l.count ≤ 4) × (ids_of l ≡ justifications_of (found_of f)) }
     ensures { result ≡ equal_plan (rows_of program.now) rule.set rule.number (found_of f) (plan_at words.now k) }
 {
     if state::plan_set(words, k) != rule.set {
@@ -209,8 +215,8 @@ fn equal_plan<'a>(
 }
 
 // The words of plan k's justifications are these, with zeros behind: as they are where the sets are the same.
-fn words_agree(words: &[u32], k: usize, ids: [u32; 4]) -> bool
-    requires { (length words.now ≡ 2432) × (k < 64) }
+fn words_agree(words: &Words, k: usize, ids: [u32; 4]) -> bool
+    requires { k < 64 }
     ensures { result ≡ agrees_in (plan_at words.now k).justifications ids }
 {
     let first = state::plan_justification(words, k, 0) == ids[0];
@@ -221,7 +227,8 @@ fn words_agree(words: &[u32], k: usize, ids: [u32; 4]) -> bool
 }
 
 // "An object rule's match counts only if no live plan has the same .."
-fn counts<'a>(program: &'a [u32], words: &'a [u32], s: Scalars, rule: Rule, f: Bindings) -> bool
+#[tactic(auto, unfolding(model::specs::Matching::counts), using(crate::proofs::Plans::some_plans))]
+fn counts<'a>(program: &'a [u32], words: &'a Words, s: Scalars, rule: Rule, f: Bindings) -> bool
     requires { Located program.now rule × Limits words.now s × (f.count ≤ 4) }
     ensures { result ≡ counts_of (rows_of program.now) (config_of words.now s) rule.set rule.number (found_of f) }
 {
@@ -248,7 +255,7 @@ fn counts<'a>(program: &'a [u32], words: &'a [u32], s: Scalars, rule: Rule, f: B
 // candidates in rising id": the search calls itself on the rows that remain. A row that leaves everything as it was is tried once.
 pub fn search<'a>(
     program: &'a [u32],
-    words: &'a [u32],
+    words: &'a Words,
     s: Scalars,
     rule: Rule,
     k: usize,
@@ -257,8 +264,7 @@ pub fn search<'a>(
     matched: &mut [u32; 4],
     fuel: &mut u32,
 ) -> Result<Option<usize>, GaveUp>
-    requires { Located program.now rule × Limits words.now s × (count + reasons_in program.now k rule.body ≤ 4) × Sized values.old matched.old }
-    ensures sized { Sized values.new matched.new }
+    requires { Located program.now rule × Limits words.now s × (count + reasons_in program.now k rule.body ≤ 4) }
     ensures is { IfOk result (Searched (counted program.now words.now s rule k (found_in values.old matched.old count)) values.new matched.new) }
     ensures back { result ≡ Ok None → values.new ≡ values.old }
     ensures kept { Kept count matched.old matched.new }
@@ -282,6 +288,7 @@ pub fn search<'a>(
     }
     let r = program::row_at(program, k);
     let mut c: usize = 0;
+    // kept: no plainer otherwise. The place goes on from where the answer says, not by one
     while let Some(next) = queries::next_answer(words, s, r, c, before, count, values, matched) {
         let n = count + queries::given_ids(r);
         let m = search(program, words, s, rule, k + 1, n, values, matched, fuel)?;
@@ -297,298 +304,8 @@ pub fn search<'a>(
     Ok(None)
 }
 
-// Whether a later row settles it: the set on which it hangs that some row of the list has no answer. The list holds rows by how many are to go
-// from them on, four bits each. A row all of whose operands have values answers now as it will when its turn comes, since what has a
-// value keeps it: so where it has no answer, none of the rows before it need be tried.
-fn ask_later<'a>(
-    program: &'a [u32],
-    words: &'a [u32],
-    s: Scalars,
-    rule: Rule,
-    k: usize,
-    list: u32,
-    count: usize,
-    values: &mut [u32; 8],
-    matched: &mut [u32; 4],
-    filter: &'a [u8],
-) -> Option<u32>
-    requires { Located program.now rule × Limits words.now s × (k < rule.body) × (count ≤ 4) × Sized values.old matched.old × Marked words.now s.atoms filter.now }
-    ensures sized { Sized values.new matched.new }
-    ensures is { IfSome result (Barren program.now words.now s rule k (found_in values.old matched.old count)) }
-    ensures back { values.new ≡ values.old }
-    ensures kept { Kept count matched.old matched.new }
-{
-    let before = *values;
-    let body = rule.body;
-    let mut left = list;
-    while left != 0 {
-        let j = (left % 16) as usize;
-        if body - k <= j {
-            return None;
-        }
-        if j == 0 {
-            return None;
-        }
-        let r = program::row_at(program, body - j);
-        if sets::is_settled(r, &before) {
-            if filters::next_answer(
-                words, s, r, 0, before, count, values, matched, filter,
-            ).is_none()
-            {
-                return Some(sets::operands(r));
-            }
-            *values = before;
-        }
-        left = left / 16;
-    }
-    None
-}
-
-// What is known before the rows from k on are tried: the set on which their failure hangs. A nogood says it, or a later row.
-fn glance<'a>(
-    program: &'a [u32],
-    words: &'a [u32],
-    s: Scalars,
-    rule: Rule,
-    k: usize,
-    hint: u32,
-    count: usize,
-    values: &mut [u32; 8],
-    matched: &mut [u32; 4],
-    hints: &mut [u32],
-    known: &'a [u32],
-    filter: &'a [u8],
-) -> Option<u32>
-    requires { Located program.now rule × Limits words.now s × (k < rule.body) × (count ≤ 4) × Sized values.old matched.old × Remembered program.now words.now s rule known.now × Marked words.now s.atoms filter.now }
-    ensures sized { Sized values.new matched.new }
-    ensures is { IfSome result (Barren program.now words.now s rule k (found_in values.old matched.old count)) }
-    ensures back { values.new ≡ values.old }
-    ensures kept { Kept count matched.old matched.new }
-{
-    if hint / hints::NOGOOD % 2 == 1 {
-        let before = *values;
-        let ids = *matched;
-        if let Some(set) = nogoods::recall(known, rule.body - k, hint, before, count, ids) {
-            return Some(set);
-        }
-    }
-    if hint < hints::LIST {
-        return None;
-    }
-    let set = ask_later(
-        program,
-        words,
-        s,
-        rule,
-        k,
-        hint / hints::LIST,
-        count,
-        values,
-        matched,
-        filter,
-    );
-    hints::charge(hints, set.is_some());
-    set
-}
-
-// The set on which a failure hangs, noted where the hint says that it may be met again.
-fn learn(
-    known: &mut [u32],
-    hint: Option<u32>,
-    rest: usize,
-    set: u32,
-    values: [u32; 8],
-    count: usize,
-    ids: [u32; 4],
-) -> u32
-    requires { (length known.old ≡ size) × IfSome hint (λ _. rest < 16) × (count ≤ 4) }
-    ensures is { result ≡ set }
-    ensures noted { (known.new ≡ known.old) ⊎ Replaced known.old known.new (nogood rest set values count ids) }
-{
-    let Some(hint) = hint else {
-        return set;
-    };
-    if hint / hints::NOGOOD % 2 == 1 {
-        nogoods::note(known, rest, hint, set, values, count, ids);
-    }
-    set
-}
-
-// The first match that counts where a search is long, to its end: the ids that are matched then, or the set on which its failure hangs, and all
-// is as it was. `body` is what it hangs on whether a match counts; `known` are nogoods of the same rule, `filter` is that of the atoms. A row
-// that changes nothing of what a failure hangs on is left at once: its other answers would fail alike.
-pub fn search_long<'a>(
-    program: &'a [u32],
-    words: &'a [u32],
-    s: Scalars,
-    rule: Rule,
-    k: usize,
-    count: usize,
-    values: &mut [u32; 8],
-    matched: &mut [u32; 4],
-    body: u32,
-    hints: &mut [u32],
-    known: &mut [u32],
-    filter: &'a [u8],
-) -> Result<usize, u32>
-    requires { Located program.now rule × Limits words.now s × (count + reasons_in program.now k rule.body ≤ 4) × Sized values.old matched.old × OfBody program.now rule.body rule.end body × Remembered program.now words.now s rule known.old × Marked words.now s.atoms filter.now }
-    ensures sized { Sized values.new matched.new }
-    ensures is { LongSearched program.now words.now s rule k (found_in values.old matched.old count) values.new matched.new result }
-    ensures back { IfErr result (λ _. values.new ≡ values.old) }
-    ensures kept { Kept count matched.old matched.new }
-    ensures learnt { Remembered program.now words.now s rule known.new }
-{
-    let before = *values;
-    if rule.body <= k {
-        let ids = *matched;
-        let f = Bindings {
-            values: before,
-            matched: ids,
-            count,
-        };
-        if counts(program, words, s, rule, f) {
-            return Ok(count);
-        }
-        return Err(body);
-    }
-    let rest = rule.body - k;
-    let hint = hints::hint_at(hints, rest);
-    if let Some(hint) = hint {
-        if let Some(set) = glance(
-            program, words, s, rule, k, hint, count, values, matched, hints, known, filter,
-        ) {
-            return Err(set);
-        }
-    }
-    let r = program::row_at(program, k);
-    let mut blame = sets::operands(r);
-    if filters::is_barred(filter, r, &before) {
-        let ids = *matched;
-        return Err(learn(known, hint, rest, blame, before, count, ids));
-    }
-    let mut gives: Option<u32> = None;
-    let mut c: usize = 0;
-    while let Some(next) = queries::next_answer(words, s, r, c, before, count, values, matched) {
-        let n = count + queries::given_ids(r);
-        let m = match search_long(
-            program,
-            words,
-            s,
-            rule,
-            k + 1,
-            n,
-            values,
-            matched,
-            body,
-            hints,
-            known,
-            filter,
-        ) {
-            Ok(found) => return Ok(found),
-            Err(set) => set,
-        };
-        *values = before;
-        let given = sets::asked(gives, r, &before);
-        gives = Some(given);
-        if sets::are_apart(m, given) {
-            let ids = *matched;
-            return Err(learn(known, hint, rest, m, before, count, ids));
-        }
-        blame = sets::union(blame, m);
-        c = next;
-    }
-    let ids = *matched;
-    Err(learn(known, hint, rest, blame, before, count, ids))
-}
-
-// A rule's search gone on with, the long way: by the answers of its first row, row k, from number `from` on. The ids that are matched then, if
-// there is a match.
-fn search_rest<'a>(
-    program: &'a [u32],
-    words: &'a [u32],
-    s: Scalars,
-    rule: Rule,
-    k: usize,
-    from: usize,
-    values: &mut [u32; 8],
-    matched: &mut [u32; 4],
-) -> Option<usize>
-    requires { Located program.now rule × Limits words.now s × (k < rule.body) × (reasons_in program.now k rule.body ≤ 4) × Sized values.old matched.old }
-    ensures sized { Sized values.new matched.new }
-    ensures is { Searched (bind (answers words.now s (row_at program.now k) (found_in values.old matched.old 0) from) (counted program.now words.now s rule (k + 1))) values.new matched.new result }
-    ensures back { result ≡ None → values.new ≡ values.old }
-{
-    let before = *values;
-    let body = sets::of_body(program, rule.body, rule.end);
-    let mut hints = hints::of_rule(program, words, s, k, rule.body);
-    let mut known: [u32; nogoods::SIZE] = [0; nogoods::SIZE];
-    let filter = filters::of_atoms(words, s.atoms);
-    let r = program::row_at(program, k);
-    let gives = sets::changed(r, &before);
-    let n = queries::given_ids(r);
-    let mut c = from;
-    while let Some(next) = filters::next_answer(
-        words, s, r, c, before, 0, values, matched, &filter,
-    ) {
-        let m = match search_long(
-            program,
-            words,
-            s,
-            rule,
-            k + 1,
-            n,
-            values,
-            matched,
-            body,
-            &mut hints,
-            &mut known,
-            &filter,
-        ) {
-            Ok(found) => return Some(found),
-            Err(set) => set,
-        };
-        *values = before;
-        if sets::are_apart(m, gives) {
-            return None;
-        }
-        c = next;
-    }
-    None
-}
-
-// The same. A first row that leaves everything as it was needs one answer: then the search is that of the rows behind it.
-fn search_on<'a>(
-    program: &'a [u32],
-    words: &'a [u32],
-    s: Scalars,
-    rule: Rule,
-    k: usize,
-    from: usize,
-    values: &mut [u32; 8],
-    matched: &mut [u32; 4],
-) -> Option<usize>
-    requires { Located program.now rule × Limits words.now s × (k < rule.body) × (reasons_in program.now k rule.body ≤ 4) × Sized values.old matched.old }
-    ensures sized { Sized values.new matched.new }
-    ensures is { Searched (bind (answers words.now s (row_at program.now k) (found_in values.old matched.old 0) from) (counted program.now words.now s rule (k + 1))) values.new matched.new result }
-    ensures back { result ≡ None → values.new ≡ values.old }
-{
-    let before = *values;
-    let r = program::row_at(program, k);
-    if from != 0 {
-        return search_rest(program, words, s, rule, k, from, values, matched);
-    }
-    if rule.body <= k + 1 {
-        return search_rest(program, words, s, rule, k, from, values, matched);
-    }
-    if !queries::closes(r, before) {
-        return search_rest(program, words, s, rule, k, from, values, matched);
-    }
-    queries::next_answer(words, s, r, 0, before, 0, values, matched)?;
-    *values = before;
-    search_on(program, words, s, rule, k + 1, 0, values, matched)
-}
-
 // Nothing is found yet.
+#[tactic(auto, unfolding(model::specs::Configuration::no_values))]
 fn nothing() -> Bindings
     ensures { (found_of result ≡ nothing_found) × (result.count ≡ 0) }
 {
@@ -600,7 +317,7 @@ fn nothing() -> Bindings
 }
 
 // "the first rule in rising number that has a match": the rule that fires, its match, and where its body stands.
-pub fn choose<'a>(program: &'a [u32], words: &'a [u32], s: Scalars, set: u32) -> Option<Choice>
+pub fn choose<'a>(program: &'a [u32], words: &'a Words, s: Scalars, set: u32) -> Option<Choice>
     requires { Lawful (rows_of program.now) × Limits words.now s }
     ensures is { option_to_list (option_map choice_of result) ≡ firing (rows_of program.now) (config_of words.now s) set }
     ensures chosen { IfSome result (Chosen program.now set) }
@@ -610,8 +327,10 @@ pub fn choose<'a>(program: &'a [u32], words: &'a [u32], s: Scalars, set: u32) ->
     let mut values = before;
     let mut matched = f.matched;
     let n = program.len() / 8;
+    // kept: the new form is no plainer (the rule's own number, no kind)
     let mut number: u32 = 1;
     let mut start = spans::first_from(program, set, 1, 1);
+    // kept: no plainer otherwise. The next rule begins where this one ends
     while start < n {
         let r = program::row_at(program, start);
         if r.set != set {
@@ -634,6 +353,7 @@ pub fn choose<'a>(program: &'a [u32], words: &'a [u32], s: Scalars, set: u32) ->
         let once = queries::closes(r, before);
         let mut fuel = FUEL;
         let mut from: usize = 0;
+        // kept: no plainer otherwise. The place goes on from where the answer says, not by one
         'candidates: while let Some(next) = queries::next_answer(
             words,
             s,
@@ -669,7 +389,7 @@ pub fn choose<'a>(program: &'a [u32], words: &'a [u32], s: Scalars, set: u32) ->
                 Ok(None) => {}
                 Err(GaveUp) => {
                     values = before;
-                    let Some(count) = search_on(
+                    let Some(count) = long::search_on(
                         program,
                         words,
                         s,

@@ -10,6 +10,7 @@ use model::Row;
 const NOTED: u32 = 1;
 
 // The variable of an operand, if it is one.
+#[tactic(auto, using(crate::proofs::Bits::bit_at))]
 pub fn bit(x: u32) -> u32
     ensures { (result < all_sets) × Member result x }
 {
@@ -23,6 +24,7 @@ pub fn bit(x: u32) -> u32
 }
 
 // What either set has.
+#[tactic(auto, using(crate::proofs::Bits::joined))]
 pub fn union(a: u32, b: u32) -> u32
     requires { (a < all_sets) × (b < all_sets) }
     ensures { Joined a b result }
@@ -53,8 +55,8 @@ pub fn of_body(program: &[u32], from: usize, to: usize) -> u32
 }
 
 // The variable of an operand that takes a value.
-fn open(x: u32, values: &[u32]) -> u32
-    requires { length values.now ≡ 8 }
+#[tactic(auto, using(crate::proofs::Bits::settled_valued))]
+fn open(x: u32, values: &[u32; 8]) -> u32
     ensures { (result < all_sets) × (1 ≤ x → x ≤ 8 → value_of values.now x ≡ no_value → has-bit result (place x) ≡ true) }
 {
     if queries::settles(x, values) {
@@ -64,8 +66,7 @@ fn open(x: u32, values: &[u32]) -> u32
 }
 
 // What a row changes: the variables that take a value, and a reason the ids. A negation changes nothing.
-pub fn changed(r: Row, values: &[u32]) -> u32
-    requires { length values.now ≡ 8 }
+pub fn changed(r: Row, values: &[u32; 8]) -> u32
     ensures { Changed r values.now result }
 {
     if r.op % 2 == 0 {
@@ -82,8 +83,8 @@ pub fn changed(r: Row, values: &[u32]) -> u32
 }
 
 // The same, asked once: known if it was asked already.
-pub fn asked(known: Option<u32>, r: Row, values: &[u32]) -> u32
-    requires { (length values.now ≡ 8) × IfSome known (Changed r values.now) }
+pub fn asked(known: Option<u32>, r: Row, values: &[u32; 8]) -> u32
+    requires { IfSome known (Changed r values.now) }
     ensures { Changed r values.now result }
 {
     match known {
@@ -93,6 +94,7 @@ pub fn asked(known: Option<u32>, r: Row, values: &[u32]) -> u32
 }
 
 // Whether two sets have nothing in common.
+#[tactic(auto, using(crate::proofs::Bits::nothing_common))]
 pub fn are_apart(a: u32, b: u32) -> bool
     ensures { result ≡ true → (j : ℕ) → has-bit a j ≡ true → has-bit b j ≡ true → ⊥ }
 {
@@ -100,8 +102,7 @@ pub fn are_apart(a: u32, b: u32) -> bool
 }
 
 // Whether no operand of a row takes a value any more, and it gives no id: then it answers now as it will later.
-pub fn is_settled(r: Row, values: &[u32]) -> bool
-    requires { length values.now ≡ 8 }
+pub fn is_settled(r: Row, values: &[u32; 8]) -> bool
     ensures { result ≡ true → Settled r values.now }
 {
     if r.part == NOTED {

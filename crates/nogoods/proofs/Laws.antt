@@ -14,7 +14,7 @@ use lib.Dec.{eqb}
 use borrow.Author.Tests.{eqb-true, not-false}
 use Rattle.lists.proofs.Tables.{equal_or_not, less_or_more}
 use Rattle.table.specs.Rows.{row, placed}
-use Rattle.table.proofs.Rows.{placed_same, placed_before, placed_after, placed_long}
+use Rattle.table.proofs.Rows.{placed_same, placed_before, placed_after}
 use Rattle.nogoods.specs.Nogoods.{has, nogood, values_in, count_in, ids_in, Replaced}
 
 -- a value of a nogood among its numbers
@@ -105,6 +105,3 @@ module _ (before after e : List ℕ) (b : length before ≡ 7680) (l : length e 
       (λ (q : i ≡ k). inl (is ∙ ap (row 15 (placed 15 before k e)) q ∙ placed_same 15 before k e l fits))
       (λ (q : i ≢ k). inr (is ∙ ⊎_elim (placed_before 15 before k e l fits i) (placed_after 15 before k e l fits i) (less_or_more i k q)))
       (equal_or_not i k)
-
-  pub replaced_long : length after ≡ 7680
-  replaced_long = let low = p.low in ap length p.is ∙ placed_long 15 before p.place e l (omega arith) ∙ b

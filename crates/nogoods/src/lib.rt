@@ -1,9 +1,9 @@
 // A table of nogoods: what failing searches tell later ones. Of two that claim the same place the newer stays; a lost one costs time alone.
 #![tactic(auto)]
 
-ghost use Rattle.std.specs.Prelude.{◌≡◌, true, ℕ, ◌<◌, ◌≤◌, length, get_or, IfSome};
+ghost use Rattle.std.specs.Prelude.{◌≡◌, true, ℕ, ◌<◌, ◌≤◌, get_or, IfSome};
 ghost use Rattle.table.specs.Rows.{row};
-ghost use Rattle.nogoods.specs.Nogoods.{has, width, places, size, nogood, values_in, count_in, ids_in, Recalled, Replaced};
+ghost use Rattle.nogoods.specs.Nogoods.{has, width, places, nogood, values_in, count_in, ids_in, Recalled, Replaced};
 
 // The numbers of a nogood.
 const WIDTH: usize = 15;
@@ -27,8 +27,9 @@ fn place(rest: usize, looked: u32, values: [u32; 8]) -> usize
 }
 
 // Whether a nogood's set has these values as it has.
-fn same_values(nogoods: &[u32], at: usize, set: u32, values: [u32; 8]) -> bool
-    requires { (length nogoods.now ≡ size) × (at < places) }
+#[tactic(auto, using(crate::proofs::Laws::same_more))]
+fn same_values(nogoods: &[u32; SIZE], at: usize, set: u32, values: [u32; 8]) -> bool
+    requires { at < places }
     ensures { result ≡ true → (j : ℕ) → j < 8 → has set j ≡ true → get_or (values_in (row width nogoods.now at)) j 0 ≡ get_or values j 0 }
 {
     for j in 0..8 {
@@ -40,8 +41,9 @@ fn same_values(nogoods: &[u32], at: usize, set: u32, values: [u32; 8]) -> bool
 }
 
 // Whether its ids are these.
-fn same_ids(nogoods: &[u32], at: usize, count: usize, ids: [u32; 4]) -> bool
-    requires { (length nogoods.now ≡ size) × (at < places) }
+#[tactic(auto, using(crate::proofs::Laws::ids_at))]
+fn same_ids(nogoods: &[u32; SIZE], at: usize, count: usize, ids: [u32; 4]) -> bool
+    requires { at < places }
     ensures { result ≡ true → (count_in (row width nogoods.now at) ≡ count) × (ids_in (row width nogoods.now at) ≡ ids) }
 {
     if table::read(nogoods, WIDTH, at, 10) as usize != count {
@@ -53,15 +55,15 @@ fn same_ids(nogoods: &[u32], at: usize, count: usize, ids: [u32; 4]) -> bool
 
 // The set of a nogood that speaks of these values and ids, if one is found. `looked` is what the rows to go look at: a wrong one costs time
 // alone.
+#[tactic(auto, using(crate::proofs::Laws::no_ids))]
 pub fn recall(
-    nogoods: &[u32],
+    nogoods: &[u32; SIZE],
     rest: usize,
     looked: u32,
     values: [u32; 8],
     count: usize,
     ids: [u32; 4],
 ) -> Option<u32>
-    requires { length nogoods.now ≡ size }
     ensures { IfSome result (λ set. Recalled nogoods.now rest set values count ids) }
 {
     let at = place(rest, looked, values);
@@ -93,7 +95,7 @@ fn numbers(rest: u32, set: u32, values: [u32; 8], count: u32, ids: [u32; 4]) -> 
 
 // One more nogood.
 pub fn note(
-    nogoods: &mut [u32],
+    nogoods: &mut [u32; SIZE],
     rest: usize,
     looked: u32,
     set: u32,
@@ -101,7 +103,7 @@ pub fn note(
     count: usize,
     ids: [u32; 4],
 )
-    requires { (length nogoods.old ≡ size) × (rest < 16) × (count ≤ 4) }
+    requires { (rest < 16) × (count ≤ 4) }
     ensures { Replaced nogoods.old nogoods.new (nogood rest set values count ids) }
 {
     let e = numbers(rest as u32, set, values, count as u32, ids);

@@ -11,11 +11,12 @@ ghost use Rattle.plan_steps.specs.Bodies.{BodyAt, remainder_at};
 
 use model::Row;
 use spans::Span;
+use state::Words;
 
 // The value of operand x, which is no constant, in plan k.
 #[tactic(auto, using(lists::proofs::Counted::get_past, state::proofs::View::values_long))]
-pub fn value_of(words: &[u32], k: usize, x: u32) -> u32
-    requires { (length words.now ≡ 2432) × (k < 64) × (x ≤ 8) }
+pub fn value_of(words: &Words, k: usize, x: u32) -> u32
+    requires { (k < 64) × (x ≤ 8) }
     ensures { result ≡ value_of (plan_at words.now k).values x }
 {
     if x == 0 {
@@ -26,8 +27,8 @@ pub fn value_of(words: &[u32], k: usize, x: u32) -> u32
 
 // The number that operand x stands for in plan k.
 #[tactic(auto, unfolding(model::specs::Configuration::operand))]
-pub fn operand(words: &[u32], k: usize, x: u32) -> u32
-    requires { (length words.now ≡ 2432) × (k < 64) }
+pub fn operand(words: &Words, k: usize, x: u32) -> u32
+    requires { k < 64 }
     ensures { result ≡ operand (plan_at words.now k).values x }
 {
     if 9 <= x {
@@ -38,8 +39,8 @@ pub fn operand(words: &[u32], k: usize, x: u32) -> u32
 
 // The rows of the body that plan k came from.
 #[tactic(auto, using(crate::proofs::Bodies::span_body))]
-pub fn body_of(program: &[u32], words: &[u32], k: usize) -> Span
-    requires { (length words.now ≡ 2432) × (k < 64) × Pairs NotLater (rows_of program.now) }
+pub fn body_of(program: &[u32], words: &Words, k: usize) -> Span
+    requires { (k < 64) × Pairs NotLater (rows_of program.now) }
     ensures { BodyAt program.now (plan_at words.now k) result }
 {
     let set = state::plan_set(words, k);
@@ -57,8 +58,8 @@ fn remainder_at(span: Span, left: u32) -> usize
 
 // The next step of plan k, whose body stands in the span, if one is left.
 #[tactic(auto, using(crate::proofs::Bodies::first_step, crate::proofs::Bodies::no_step))]
-pub fn next_step(program: &[u32], words: &[u32], k: usize, span: Span) -> Option<Row>
-    requires { (length words.now ≡ 2432) × (k < 64) × BodyAt program.now (plan_at words.now k) span }
+pub fn next_step(program: &[u32], words: &Words, k: usize, span: Span) -> Option<Row>
+    requires { (k < 64) × BodyAt program.now (plan_at words.now k) span }
     ensures { option_to_list result ≡ first_of (remainder (rows_of program.now) (plan_at words.now k)) }
 {
     let j = remainder_at(span, state::plan_left(words, k));

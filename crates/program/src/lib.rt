@@ -117,6 +117,7 @@ pub fn load(text: &[u8], program: &mut [u32; 4096]) -> Result<u32, LoadError>
     let mut scan = rows::at_first();
     let mut ceilings = [0u8; 256];
     let mut at = first + 1;
+    // kept: no plainer otherwise. The place goes on behind the line that was read.
     while at < text.len() {
         let end = text::newline(text, at);
         if text.len() <= end {

@@ -8,14 +8,14 @@ use mathlib.Core.List.{List, [], ◌∷◌}
 use Prim.Native.Nat.{ℕ, ◌+◌, ◌-◌, ◌*◌, ◌/◌, ◌%◌, ◌<◌, ◌≤◌}
 use native.Mathlib.Omega.{arith}
 use lib.Dec.{eqb, leb, ltb}
-use lib.ListN.{length, get_or, length-map}
+use lib.ListN.{length, get_or}
 use borrow.Author.Tests.{ne_eqb, le-leb, leb-true, leb-false}
 use Rattle.lists.specs.Lists.{within, when, Pairs}
 use Rattle.lists.specs.Tables.{tabulate, index_of, PlaceOf}
 use Rattle.lists.proofs.Lists.{pairs_map}
 use Rattle.lists.proofs.Tests.{and2}
 use Rattle.lists.proofs.Cuts.{within_above}
-use Rattle.lists.proofs.Tables.{tabulate_length, tabulate_at, tabulate_map, index_within, index_at}
+use Rattle.lists.proofs.Tables.{tabulate_length, tabulate_at, tabulate_map, index_at}
 use Rattle.model.specs.declared.Row.{Row}
 use Rattle.model.specs.declared.Atom.{Atom}
 use Rattle.model.specs.Program.{constant}

@@ -1,6 +1,5 @@
 -- How the code's answer, found or not, follows the lists of the model.
-use Rattle.std.specs.Prelude.{Option, Some, None}
-use Rattle.std.specs.Bool.{then_some}
+use Rattle.std.specs.Prelude.{Some, None}
 use mathlib.Core.Path.{◌≡◌, refl, sym, ap, ◌∙◌}
 use mathlib.Core.Bool.{Bool, true, false}
 use mathlib.Core.Logic.{◌≢◌}
@@ -17,13 +16,13 @@ use Rattle.lists.specs.Lists.{bit, when, bind}
 use Rattle.lists.proofs.Bind.{append-nil}
 use Rattle.model.specs.declared.Row.{Row}
 use Rattle.lists.proofs.Counted.{trimmed_few}
-use Rattle.lists.proofs.Search.{trimmed_last}
+use Rattle.lists.proofs.Search.{get_nonzero, trimmed_last}
 use Rattle.table.specs.Rows.{row}
 use Rattle.state.specs.View.{plan_at}
 use Rattle.model.specs.Configuration.{has_flag}
 use Rattle.model.specs.Matching.{Candidate, candidate, Found, found, fit}
 use Rattle.queries.specs.declared.Columns.{Columns}
-use Rattle.queries.specs.View.{candidate_of, room, Kept}
+use Rattle.queries.specs.View.{room, Kept}
 use Rattle.queries.specs.Answers.{taken, tried}
 
 -- one operand after the other
@@ -59,14 +58,6 @@ module _ (met : Bool) (values : List ℕ) where
     pub taken_reason : met ≡ true → r.part ≡ 1 → (l : List ℕ) → l ≡ f.matched ++ (k.i ∷ []) → ◌≡◌ {A = List Found} (record { values = values; matched = l } ∷ []) (taken r k f)
     unfolding found
     taken_reason h p l q = rw q (rw (eq-eqb r.part 1 p) at (taken_one h))
-
--- a candidate that is there if a test says so
-pub there_if : (b : Bool) (x : Columns) (o : Option Columns) → o ≡ then_some b x → candidate_of o ≡ when b (candidate x.i x.a x.b)
-there_if b x o e = ap candidate_of e ∙ at b
-  where
-    at : (b : Bool) → candidate_of (then_some b x) ≡ when b (candidate x.i x.a x.b)
-    at true = refl
-    at false = refl
 
 -- a candidate that is not there, and one that is
 module _ (r : Row) (f : Found) where
@@ -106,6 +97,9 @@ module _ (words : List ℕ) (k : ℕ) where
   pub justifications_last : (j : ℕ) → get_or (plan_at words k).justifications j 0 ≡ 0 → length (plan_at words k).justifications ≤ suc j → length (plan_at words k).justifications ≤ j
   unfolding plan_at
   justifications_last j e h = trimmed_last _ j e h
+
+  pub justifications_reach : (j : ℕ) → get_or (plan_at words k).justifications j 0 ≢ 0 → j < length (plan_at words k).justifications
+  justifications_reach j h = get_nonzero (plan_at words k).justifications j h
 
 -- a flag of any number
 pub flag_zero : (n : ℕ) → has_flag 1 n ≡ has_flag 0 n

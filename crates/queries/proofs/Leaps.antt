@@ -1,22 +1,19 @@
 -- Past what stands at one place only: the candidates that are leapt over have other ids than the one that is wanted.
 use Rattle.std.specs.Prelude.{Option, Some}
-use mathlib.Core.Path.{◌≡◌, ◌∙◌}
+use mathlib.Core.Path.{◌≡◌}
 use mathlib.Core.Bool.{true, false, and-eq-true_iff}
-use mathlib.Core.Logic.{◌≢◌}
 use mathlib.Core.List.{List}
 use Prim.Native.Nat.{ℕ, ◌+◌, ◌*◌, ◌/◌, ◌%◌, ◌<◌, ◌≤◌}
 use native.Mathlib.Omega.{arith}
 use lib.Dec.{leb}
-use lib.ListN.{length, length-map}
 use borrow.Author.Tests.{leb-true}
 use Rattle.lists.specs.Lists.{within}
 use Rattle.lists.specs.Tables.{index_of}
 use Rattle.lists.proofs.Cuts.{within_above}
-use Rattle.lists.proofs.Tables.{tabulate_length, index_within}
 use Rattle.model.specs.declared.Row.{Row}
 use Rattle.model.specs.declared.Atom.{Atom}
 use Rattle.state.specs.declared.Scalars.{Scalars}
-use Rattle.state.specs.View.{atom_at, plan_at, atoms_of, atom_ids_of, plan_ids_of, AtomsRise, PlansRise}
+use Rattle.state.specs.View.{plan_at, atom_ids_of, plan_ids_of, AtomsRise, PlansRise}
 use Rattle.queries.specs.Answers.{justification_candidate, candidate_at, Skipped}
 use Rattle.queries.proofs.Skips.{skip_as}
 use Rattle.queries.proofs.Halves as halves

@@ -1,5 +1,5 @@
 -- What the code's structs say in the model's terms, and what the queries ask of the words.
-use Rattle.std.specs.Prelude.{◌≡◌, Bool, false, not, ◌&&◌, ◌||◌, ◌≢◌, List, [], ◌∷◌, ℕ, ◌+◌, ◌<◌, ◌≤◌, eqb, length, take, get_or, Option, Some, None, IfSome}
+use Rattle.std.specs.Prelude.{◌≡◌, Bool, false, not, ◌&&◌, ◌||◌, ◌≢◌, List, [], ◌∷◌, ℕ, ◌+◌, ◌<◌, ◌≤◌, eqb, take, get_or, Option, Some, None, IfSome}
 use Rattle.lists.specs.Lists.{bit}
 use Rattle.model.specs.declared.Row.{Row}
 use Rattle.model.specs.Configuration.{no_value, value_of}
@@ -16,10 +16,6 @@ found_in values matched n = record { values = values; matched = take n matched }
 abbrev pub found_of : Bindings → Found
 found_of f = found_in f.values f.matched f.count
 
--- eight values, and room for four ids
-abbrev pub Sized : List ℕ → List ℕ → Type 0
-Sized values matched = (length values ≡ 8) × (length matched ≡ 4)
-
 -- the first n ids are what they were
 abbrev pub Kept : ℕ → List ℕ → List ℕ → Type 0
 Kept n before after = take n after ≡ take n before
@@ -29,9 +25,8 @@ abbrev pub candidate_of : Option Columns → List Candidate
 candidate_of None = []
 candidate_of (Some x) = candidate x.i x.a x.b ∷ []
 
--- words of a configuration: as many as there are, no more live than may, sixteen flags to a plan, rising ids
+-- words of a configuration: no more live than may, sixteen flags to a plan, rising ids
 pub record Limits (words : List ℕ) (s : Scalars) : Type 0 where
-  pub long : length words ≡ 2432
   pub atoms : s.atoms ≤ 256
   pub plans : s.plans ≤ 64
   pub flags : (k : ℕ) → k < s.plans → (plan_at words k).flags ≤ 65535

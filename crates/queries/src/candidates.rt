@@ -9,11 +9,11 @@ ghost use Rattle.queries.specs.Answers.{atom_candidate, plan_candidate, remainde
 
 use crate::{Columns, Wanted};
 use model::Row;
-use state::Scalars;
+use state::{Scalars, Words};
 
 // "1 atom (i, p, a, b)": atom k, if its predicate is p.
-pub fn atom_candidate(words: &[u32], p: u32, k: usize) -> Option<Columns>
-    requires { (length words.now ≡ 2432) × (k < 256) }
+pub fn atom_candidate(words: &Words, p: u32, k: usize) -> Option<Columns>
+    requires { k < 256 }
     ensures { candidate_of result ≡ atom_candidate p (atom_at words.now k) }
 {
     let x = state::atom_at(words, k);
@@ -25,8 +25,8 @@ pub fn atom_candidate(words: &[u32], p: u32, k: usize) -> Option<Columns>
 }
 
 // "3 plan (i, a set, b rule)": plan k.
-pub fn plan_candidate(words: &[u32], k: usize) -> Option<Columns>
-    requires { (length words.now ≡ 2432) × (k < 64) }
+pub fn plan_candidate(words: &Words, k: usize) -> Option<Columns>
+    requires { k < 64 }
     ensures { candidate_of result ≡ plan_candidate (plan_at words.now k) }
 {
     let i = state::plan_id(words, k);
@@ -36,8 +36,8 @@ pub fn plan_candidate(words: &[u32], k: usize) -> Option<Columns>
 }
 
 // "5 remainder (i, a steps left)": plan k.
-fn remainder_candidate(words: &[u32], k: usize) -> Option<Columns>
-    requires { (length words.now ≡ 2432) × (k < 64) }
+fn remainder_candidate(words: &Words, k: usize) -> Option<Columns>
+    requires { k < 64 }
     ensures { candidate_of result ≡ remainder_candidate (plan_at words.now k) }
 {
     let i = state::plan_id(words, k);
@@ -46,8 +46,9 @@ fn remainder_candidate(words: &[u32], k: usize) -> Option<Columns>
 }
 
 // How many justifications plan k has: the zeros behind them are none.
-pub fn justification_count(words: &[u32], k: usize) -> usize
-    requires { (length words.now ≡ 2432) × (k < 64) }
+#[tactic(auto, using(crate::proofs::Laws::justifications_few, crate::proofs::Laws::justifications_last, crate::proofs::Laws::justifications_reach))]
+pub fn justification_count(words: &Words, k: usize) -> usize
+    requires { k < 64 }
     ensures { result ≡ length (plan_at words.now k).justifications }
 {
     if state::plan_justification(words, k, 3) != 0 {
@@ -66,8 +67,8 @@ pub fn justification_count(words: &[u32], k: usize) -> usize
 }
 
 // "7 justification (i plan, a atom)": plan k and its justification j, if it has so many.
-fn justification_candidate(words: &[u32], k: usize, j: usize) -> Option<Columns>
-    requires { (length words.now ≡ 2432) × (k < 64) × (j < 4) }
+fn justification_candidate(words: &Words, k: usize, j: usize) -> Option<Columns>
+    requires { (k < 64) × (j < 4) }
     ensures { candidate_of result ≡ justification_candidate (plan_at words.now k) j }
 {
     let i = state::plan_id(words, k);
@@ -77,8 +78,8 @@ fn justification_candidate(words: &[u32], k: usize, j: usize) -> Option<Columns>
 }
 
 // "9 subgoal (i plan, a atom)": plan k, if it has one.
-fn subgoal_candidate(words: &[u32], k: usize) -> Option<Columns>
-    requires { (length words.now ≡ 2432) × (k < 64) }
+fn subgoal_candidate(words: &Words, k: usize) -> Option<Columns>
+    requires { k < 64 }
     ensures { candidate_of result ≡ subgoal_candidate (plan_at words.now k) }
 {
     let i = state::plan_id(words, k);
@@ -87,6 +88,7 @@ fn subgoal_candidate(words: &[u32], k: usize) -> Option<Columns>
 }
 
 // Whether a flag is set, of any number.
+#[tactic(auto, using(crate::proofs::Laws::flag_zero, crate::proofs::Laws::flag_high))]
 fn flagged(flags: u16, f: u32) -> bool
     ensures { result ≡ has_flag f flags }
 {
@@ -100,8 +102,8 @@ fn flagged(flags: u16, f: u32) -> bool
 }
 
 // "11 state (i, a a constant flag 1 to 16)": plan k, if its flag is set.
-fn state_candidate(words: &[u32], x: u32, k: usize) -> Option<Columns>
-    requires { (length words.now ≡ 2432) × (k < 64) × ((plan_at words.now k).flags ≤ 65535) }
+fn state_candidate(words: &Words, x: u32, k: usize) -> Option<Columns>
+    requires { (k < 64) × ((plan_at words.now k).flags ≤ 65535) }
     ensures { candidate_of result ≡ state_candidate x (plan_at words.now k) }
 {
     let i = state::plan_id(words, k);
@@ -111,6 +113,7 @@ fn state_candidate(words: &[u32], x: u32, k: usize) -> Option<Columns>
 }
 
 // How many candidates are numbered.
+#[tactic(auto, unfolding(crate::specs::Answers::count_of))]
 pub fn count(s: Scalars, r: Row) -> usize
     ensures { result ≡ count_of s r }
 {
@@ -137,7 +140,8 @@ pub fn count(s: Scalars, r: Row) -> usize
 }
 
 // Candidate c of a row. "13 cycle (a)": one, the present cycle.
-pub fn candidate_at(words: &[u32], s: Scalars, r: Row, c: usize) -> Option<Columns>
+#[tactic(auto, unfolding(crate::specs::Answers::candidate_at, crate::specs::Answers::count_of))]
+pub fn candidate_at(words: &Words, s: Scalars, r: Row, c: usize) -> Option<Columns>
     requires { Limits words.now s × (c < count_of s r) }
     ensures { candidate_of result ≡ candidate_at words.now s r c }
 {
@@ -202,16 +206,16 @@ fn sought(w: Wanted, p: u32) -> u32
 }
 
 // Atom c has predicate p, and v and w in the columns y and z.
-fn stands(words: &[u32], p: u32, y: usize, v: u32, z: usize, w: u32, c: usize) -> bool
-    requires { (length words.now ≡ 2432) × (y ≤ atom_b) × (z ≤ atom_b) × (c < 256) }
+fn stands(words: &Words, p: u32, y: usize, v: u32, z: usize, w: u32, c: usize) -> bool
+    requires { (y ≤ atom_b) × (z ≤ atom_b) × (c < 256) }
     ensures { result ≡ stands_at words.now p y v z w c }
 {
     (words[state::ATOM_P + c] == p) & ((words[y + c] == v) & (words[z + c] == w))
 }
 
 // One of eight atoms from c on may be such an atom: without a branch, so that they are compared side by side.
-fn any_of_eight(words: &[u32], p: u32, y: usize, v: u32, z: usize, w: u32, c: usize) -> bool
-    requires { (length words.now ≡ 2432) × (y ≤ atom_b) × (z ≤ atom_b) × (c + 8 ≤ 256) }
+fn any_of_eight(words: &Words, p: u32, y: usize, v: u32, z: usize, w: u32, c: usize) -> bool
+    requires { (y ≤ atom_b) × (z ≤ atom_b) × (c + 8 ≤ 256) }
     ensures { result ≡ false → ((k : ℕ) → c ≤ k → k < c + 8 → stands_at words.now p y v z w k ≡ false) }
 {
     let first = stands(words, p, y, v, z, w, c) | stands(words, p, y, v, z, w, c + 1);
@@ -223,7 +227,7 @@ fn any_of_eight(words: &[u32], p: u32, y: usize, v: u32, z: usize, w: u32, c: us
 
 // From `from` on, past eights without such an atom.
 fn pass_eights(
-    words: &[u32],
+    words: &Words,
     p: u32,
     y: usize,
     v: u32,
@@ -232,7 +236,7 @@ fn pass_eights(
     from: usize,
     n: usize,
 ) -> usize
-    requires { (length words.now ≡ 2432) × (y ≤ atom_b) × (z ≤ atom_b) × (from ≤ n) × (n ≤ 256) }
+    requires { (y ≤ atom_b) × (z ≤ atom_b) × (from ≤ n) × (n ≤ 256) }
     ensures { Without words.now p y v z w from result × (result ≤ n) }
 {
     let eights = (n - from) / 8;
@@ -247,7 +251,7 @@ fn pass_eights(
 
 // From `from` on, up to such an atom or n.
 fn pass_ones(
-    words: &[u32],
+    words: &Words,
     p: u32,
     y: usize,
     v: u32,
@@ -256,7 +260,7 @@ fn pass_ones(
     from: usize,
     n: usize,
 ) -> usize
-    requires { (length words.now ≡ 2432) × (y ≤ atom_b) × (z ≤ atom_b) × (from ≤ n) × (n ≤ 256) }
+    requires { (y ≤ atom_b) × (z ≤ atom_b) × (from ≤ n) × (n ≤ 256) }
     ensures { Without words.now p y v z w from result × (result ≤ n) }
 {
     for c in from..n {
@@ -268,8 +272,8 @@ fn pass_ones(
 }
 
 // The first candidate from `from` on that is like what is wanted, or n; of atoms, and so on by query.
-pub fn skip_atoms(words: &[u32], p: u32, a: Wanted, b: Wanted, from: usize, n: usize) -> usize
-    requires { (length words.now ≡ 2432) × (n ≤ 256) }
+pub fn skip_atoms(words: &Words, p: u32, a: Wanted, b: Wanted, from: usize, n: usize) -> usize
+    requires { n ≤ 256 }
     ensures { (i : Option ℕ) → Skipped (λ c. atom_candidate p (atom_at words.now c)) i a b from result }
 {
     if n <= from {
@@ -308,8 +312,8 @@ fn skip_by<F: Fn(usize) -> Option<Columns>>(
 }
 
 // None of plan k's justifications is the number that is wanted.
-fn is_lacking(a: Wanted, words: &[u32], k: usize) -> bool
-    requires { (length words.now ≡ 2432) × (k < 64) }
+fn is_lacking(a: Wanted, words: &Words, k: usize) -> bool
+    requires { k < 64 }
     ensures { result ≡ lacks a (plan_at words.now k).justifications }
 {
     let first = state::plan_justification(words, k, 0);
@@ -321,8 +325,8 @@ fn is_lacking(a: Wanted, words: &[u32], k: usize) -> bool
 
 // A plan with another id than is wanted, or without the atom, is passed over with its four numbers, and so are those past its last
 // justification.
-fn skip_justifications(words: &[u32], i: Wanted, a: Wanted, from: usize, plans: usize) -> usize
-    requires { (length words.now ≡ 2432) × (plans ≤ 64) }
+fn skip_justifications(words: &Words, i: Wanted, a: Wanted, from: usize, plans: usize) -> usize
+    requires { plans ≤ 64 }
     ensures { (b : Option ℕ) → Skipped (λ c. justification_candidate (plan_at words.now (c / 4)) (c % 4)) i a b from result }
 {
     for k in from / 4..plans {
@@ -360,7 +364,7 @@ fn leap(from: usize, at: usize, width: usize, n: usize) -> usize
 
 // The number behind the one candidate that has the id that is wanted, if one has: by halves, since ids rise. Rows 7 and 8 have four to a plan,
 // and row 13 names no instance.
-pub fn behind(words: &[u32], s: Scalars, r: Row, id: u32) -> Option<usize>
+pub fn behind(words: &Words, s: Scalars, r: Row, id: u32) -> Option<usize>
     requires { Limits words.now s × (1 ≤ r.op) × (r.op ≤ 12) × (within 7 8 r.op ≡ false) }
     ensures { Alone words.now s r (Some id) result }
 {
@@ -371,7 +375,7 @@ pub fn behind(words: &[u32], s: Scalars, r: Row, id: u32) -> Option<usize>
 }
 
 // An id that is wanted is found by halves, since ids rise; no candidate with another id fits.
-fn skip_wanted(words: &[u32], s: Scalars, r: Row, id: u32, from: usize) -> usize
+fn skip_wanted(words: &Words, s: Scalars, r: Row, id: u32, from: usize) -> usize
     requires { Limits words.now s }
     ensures { (a b : Option ℕ) → Skipped (candidate_at words.now s r) (Some id) a b from result }
 {
@@ -397,7 +401,7 @@ fn skip_wanted(words: &[u32], s: Scalars, r: Row, id: u32, from: usize) -> usize
 
 // The first candidate of a row from `from` on that may fit: the kind of candidate is chosen once for all that are passed over.
 pub fn skip(
-    words: &[u32],
+    words: &Words,
     s: Scalars,
     r: Row,
     i: Wanted,

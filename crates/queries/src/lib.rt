@@ -3,15 +3,15 @@
 
 pub mod candidates;
 
-ghost use Rattle.std.specs.Prelude.{◌≡◌, false, ◌||◌, ◌+◌, ◌≤◌, length, is_some};
+ghost use Rattle.std.specs.Prelude.{◌≡◌, false, ◌||◌, ◌+◌, ◌≤◌, is_some};
 ghost use Rattle.model.specs.Program.{any?};
 ghost use Rattle.lists.specs.Lists.{within, when};
 ghost use Rattle.model.specs.Matching.{candidate, meet as met-with, fit as fit_of};
-ghost use Rattle.queries.specs.View.{found_in, Limits, room, Sized, Kept, Wants};
+ghost use Rattle.queries.specs.View.{found_in, Limits, room, Kept, Wants};
 ghost use Rattle.queries.specs.Answers.{tried, count_of, hits, answers, width, given_ids, Next, settled, closed};
 
 use model::Row;
-use state::Scalars;
+use state::{Scalars, Words};
 
 // What is found so far: the values of variables 1 to 8, and the ids that the reasons matched, of which there are `count`.
 #[derive(Clone, Copy)]
@@ -33,10 +33,9 @@ pub struct Columns {
 pub type Wanted = Option<u32>;
 
 // "A variable without a value takes the candidate's; one with a value must equal it." False where it does not fit.
+#[tactic(auto, unfolding(model::specs::Matching::meet), using(lists::proofs::Tables::get_within))]
 fn meet(x: u32, n: u32, values: &mut [u32; 8]) -> bool
-    requires { length values.old ≡ 8 }
-    ensures long { length values.new ≡ 8 }
-    ensures is { when result values.new ≡ met-with x n values.old }
+    ensures { when result values.new ≡ met-with x n values.old }
 {
     if x == 0 {
         return true;
@@ -54,10 +53,9 @@ fn meet(x: u32, n: u32, values: &mut [u32; 8]) -> bool
 }
 
 // The three operands of a row against what stands in a candidate's columns.
+#[tactic(auto, unfolding(model::specs::Matching::fit), using(crate::proofs::Laws::stop, crate::proofs::Laws::go))]
 fn fit(r: Row, i: u32, a: u32, b: u32, values: &mut [u32; 8]) -> bool
-    requires { length values.old ≡ 8 }
-    ensures long { length values.new ≡ 8 }
-    ensures is { when result values.new ≡ fit_of r (candidate i a b) values.old }
+    ensures { when result values.new ≡ fit_of r (candidate i a b) values.old }
 {
     if !meet(r.i, i, values) {
         return false;
@@ -70,6 +68,7 @@ fn fit(r: Row, i: u32, a: u32, b: u32, values: &mut [u32; 8]) -> bool
 
 // A candidate into what is found so far: its values, and of a reason its id behind `count` others. False where it is not there or does
 // not fit.
+#[tactic(auto, using(crate::proofs::Laws::tried_absent))]
 fn take(
     r: Row,
     x: Option<Columns>,
@@ -77,8 +76,7 @@ fn take(
     values: &mut [u32; 8],
     matched: &mut [u32; 4],
 ) -> bool
-    requires { (room r count ≤ 4) × Sized values.old matched.old }
-    ensures sized { Sized values.new matched.new }
+    requires { room r count ≤ 4 }
     ensures is { when result (found_in values.new matched.new (room r count)) ≡ tried r x (found_in values.old matched.old count) }
     ensures kept { Kept count matched.old matched.new }
 {
@@ -96,8 +94,7 @@ fn take(
 }
 
 // The number that an operand must meet, if it is known: a constant, or the value of its variable.
-pub fn wanted_by(x: u32, values: &[u32]) -> Wanted
-    requires { length values.now ≡ 8 }
+pub fn wanted_by(x: u32, values: &[u32; 8]) -> Wanted
     ensures wants { Wants result x values.now }
     ensures known { (any? x || is_some result) ≡ settled values.now x }
 {
@@ -114,7 +111,7 @@ pub fn wanted_by(x: u32, values: &[u32]) -> Wanted
 // The first atom from `from` on that fits a row that wants these arguments, into what is found so far: the number behind it. `before` is what
 // the values are.
 fn next_atom(
-    words: &[u32],
+    words: &Words,
     s: Scalars,
     r: Row,
     a: Wanted,
@@ -125,14 +122,14 @@ fn next_atom(
     values: &mut [u32; 8],
     matched: &mut [u32; 4],
 ) -> Option<usize>
-    requires { Limits words.now s × (room r count ≤ 4) × Sized values.old matched.old × (values.old ≡ before) × (1 ≤ r.op) × (r.op ≤ 2) × Wants a r.a before × Wants b r.b before }
-    ensures sized { Sized values.new matched.new }
+    requires { Limits words.now s × (room r count ≤ 4) × (values.old ≡ before) × (1 ≤ r.op) × (r.op ≤ 2) × Wants a r.a before × Wants b r.b before }
     ensures is { Next (hits words.now s r (found_in before matched.old count)) from (count_of s r) (found_in values.new matched.new (room r count)) result }
     ensures back { result ≡ None → values.new ≡ before }
     ensures kept { Kept count matched.old matched.new }
 {
     let n = s.atoms as usize;
     let mut c = candidates::skip_atoms(words, r.p, a, b, from, n);
+    // kept: no plainer otherwise. The place goes on from where the answer says, not by one
     while c < n {
         let x = candidates::atom_candidate(words, r.p, c);
         c += 1;
@@ -147,7 +144,7 @@ fn next_atom(
 
 // The same of the candidates of any row.
 fn next_candidate(
-    words: &[u32],
+    words: &Words,
     s: Scalars,
     r: Row,
     from: usize,
@@ -156,8 +153,7 @@ fn next_candidate(
     values: &mut [u32; 8],
     matched: &mut [u32; 4],
 ) -> Option<usize>
-    requires { Limits words.now s × (room r count ≤ 4) × Sized values.old matched.old × (values.old ≡ before) }
-    ensures sized { Sized values.new matched.new }
+    requires { Limits words.now s × (room r count ≤ 4) × (values.old ≡ before) }
     ensures is { Next (hits words.now s r (found_in before matched.old count)) from (count_of s r) (found_in values.new matched.new (room r count)) result }
     ensures back { result ≡ None → values.new ≡ before }
     ensures kept { Kept count matched.old matched.new }
@@ -167,6 +163,7 @@ fn next_candidate(
     let a = wanted_by(r.a, &before);
     let b = wanted_by(r.b, &before);
     let mut c = candidates::skip(words, s, r, i, a, b, from);
+    // kept: no plainer otherwise. The place goes on from where the answer says, not by one
     while c < n {
         let x = candidates::candidate_at(words, s, r, c);
         c += 1;
@@ -181,7 +178,7 @@ fn next_candidate(
 
 // The same of a row that asks for a plan whose id is not known: few live, so each is tried.
 fn next_plan(
-    words: &[u32],
+    words: &Words,
     s: Scalars,
     r: Row,
     from: usize,
@@ -190,8 +187,7 @@ fn next_plan(
     values: &mut [u32; 8],
     matched: &mut [u32; 4],
 ) -> Option<usize>
-    requires { Limits words.now s × (room r count ≤ 4) × Sized values.old matched.old × (values.old ≡ before) × (3 ≤ r.op) × (r.op ≤ 4) }
-    ensures sized { Sized values.new matched.new }
+    requires { Limits words.now s × (room r count ≤ 4) × (values.old ≡ before) × (3 ≤ r.op) × (r.op ≤ 4) }
     ensures is { Next (hits words.now s r (found_in before matched.old count)) from (count_of s r) (found_in values.new matched.new (room r count)) result }
     ensures back { result ≡ None → values.new ≡ before }
     ensures kept { Kept count matched.old matched.new }
@@ -208,7 +204,7 @@ fn next_plan(
 
 // The same of a row whose id is known, and which has one candidate with it at most.
 fn next_known(
-    words: &[u32],
+    words: &Words,
     s: Scalars,
     r: Row,
     id: u32,
@@ -218,8 +214,7 @@ fn next_known(
     values: &mut [u32; 8],
     matched: &mut [u32; 4],
 ) -> Option<usize>
-    requires { Limits words.now s × (room r count ≤ 4) × Sized values.old matched.old × (values.old ≡ before) × Wants (Some id) r.i before × (1 ≤ r.op) × (r.op ≤ 12) × (within 7 8 r.op ≡ false) }
-    ensures sized { Sized values.new matched.new }
+    requires { Limits words.now s × (room r count ≤ 4) × (values.old ≡ before) × Wants (Some id) r.i before × (1 ≤ r.op) × (r.op ≤ 12) × (within 7 8 r.op ≡ false) }
     ensures is { Next (hits words.now s r (found_in before matched.old count)) from (count_of s r) (found_in values.new matched.new (room r count)) result }
     ensures back { result ≡ None → values.new ≡ before }
     ensures kept { Kept count matched.old matched.new }
@@ -238,7 +233,7 @@ fn next_known(
 
 // The same by the kind of row: what most rows ask for has a way of its own.
 fn next_fit(
-    words: &[u32],
+    words: &Words,
     s: Scalars,
     r: Row,
     from: usize,
@@ -247,8 +242,7 @@ fn next_fit(
     values: &mut [u32; 8],
     matched: &mut [u32; 4],
 ) -> Option<usize>
-    requires { Limits words.now s × (room r count ≤ 4) × Sized values.old matched.old × (values.old ≡ before) }
-    ensures sized { Sized values.new matched.new }
+    requires { Limits words.now s × (room r count ≤ 4) × (values.old ≡ before) }
     ensures is { Next (hits words.now s r (found_in before matched.old count)) from (count_of s r) (found_in values.new matched.new (room r count)) result }
     ensures back { result ≡ None → values.new ≡ before }
     ensures kept { Kept count matched.old matched.new }
@@ -277,7 +271,7 @@ fn next_fit(
 // What a row gives, from number c on: a query each candidate that fits, a negation what was found before, if none fits: the number
 // behind the answer.
 pub fn next_answer(
-    words: &[u32],
+    words: &Words,
     s: Scalars,
     r: Row,
     c: usize,
@@ -286,8 +280,7 @@ pub fn next_answer(
     values: &mut [u32; 8],
     matched: &mut [u32; 4],
 ) -> Option<usize>
-    requires { Limits words.now s × (room r count ≤ 4) × Sized values.old matched.old × (values.old ≡ before) }
-    ensures sized { Sized values.new matched.new }
+    requires { Limits words.now s × (room r count ≤ 4) × (values.old ≡ before) }
     ensures is { Next (answers words.now s r (found_in before matched.old count)) c (width s r) (found_in values.new matched.new (count + given_ids r)) result }
     ensures back { result ≡ None → values.new ≡ before }
     ensures kept { Kept count matched.old matched.new }
@@ -306,6 +299,7 @@ pub fn next_answer(
 }
 
 // How many ids a row adds to those that were matched: a reason its candidate's, a negation none.
+#[tactic(auto, unfolding(crate::specs::Answers::given_ids))]
 pub fn given_ids(r: Row) -> usize
     ensures { result ≡ given_ids r }
 {
@@ -319,14 +313,14 @@ pub fn given_ids(r: Row) -> usize
 }
 
 // Whether an operand takes no value: any, a constant, a variable with a value.
-pub fn settles(x: u32, values: &[u32]) -> bool
-    requires { length values.now ≡ 8 }
+pub fn settles(x: u32, values: &[u32; 8]) -> bool
     ensures { result ≡ settled values.now x }
 {
     (x == 0) | wanted_by(x, values).is_some()
 }
 
 // Whether a row leaves everything as it was: no operand takes a value, and it is no reason.
+#[tactic(auto, unfolding(crate::specs::Answers::closed))]
 pub fn closes(r: Row, values: [u32; 8]) -> bool
     ensures { result ≡ closed r values }
 {

@@ -7,7 +7,7 @@ ghost use Rattle.refusals.specs.Table.{words};
 
 use model::Refusal;
 
-// The table. A number may be none of its.
+// The table. kept: a number from outside, which may be none of its.
 pub fn refusal_words(number: u32) -> &'static [u8]
     ensures { result.now ≡ words number }
 {

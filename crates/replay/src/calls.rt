@@ -1,104 +1,86 @@
-// The calls of a script: each is made on the bench's configuration, and its line is put.
-ghost use Rattle.std.specs.Prelude.{◌≤◌, length};
-ghost use Rattle.listing.specs.Listing.{Listable};
+// The bench, and the calls of a script on it: each is made, and its line is put.
+ghost use Rattle.std.specs.Prelude.{◌≤◌};
 
-use crate::output;
-use crate::output::{Bench, Page};
-use interpreter::RunReply;
-use state::Scalars;
+use crate::output::Page;
+use model::Refusal;
+use state::Config;
+use std::io::Stdout;
 
-// The first numbers of a line are the rows.
-pub fn sense(program: &[u32], numbers: &[u32], count: usize, b: Bench, out: &mut Page) -> Bench
-    requires { count ≤ length numbers.now }
-{
-    let config = b.config;
-    let r = interpreter::sense(program, config, &numbers[..count]);
-    let at = output::put_changed(out, b.at, b"sensed", r.number, r.made, r.gone);
-    let after = r.config;
-    b.with(after, at)
+// The program and how many rows it has, the configuration, the number of the script's line, what is printed, and whether the script is
+// left.
+#[derive(Drop)]
+pub struct Bench {
+    pub program: [u32; 4096],
+    pub rows: u32,
+    ghost few_rows: { rows ≤ 512 },
+    pub config: Config,
+    pub line: u64,
+    pub page: Page,
+    pub is_over: bool,
 }
 
-pub fn answer(program: &[u32], n: u32, b: Bench, out: &mut Page) -> Bench {
-    let config = b.config;
-    let r = interpreter::answer(program, config, n);
-    let at = output::put_changed(out, b.at, b"answered", r.number, r.made, r.gone);
-    let after = r.config;
-    b.with(after, at)
-}
-
-pub fn delete(program: &[u32], id: u32, b: Bench, out: &mut Page) -> Bench {
-    let config = b.config;
-    let r = interpreter::delete(program, config, id);
-    let at = output::put_changed(out, b.at, b"deleted", r.number, r.made, r.gone);
-    let after = r.config;
-    b.with(after, at)
-}
-
-pub fn step(program: &[u32], b: Bench, out: &mut Page) -> Bench {
-    let config = b.config;
-    let r = interpreter::step(program, config);
-    let after = r.config;
-    if r.number != 0 {
-        let at = output::put_refused(out, b.at, r.number);
-        return b.with(after, at);
+impl Bench {
+    pub fn new(stdout: Stdout) -> Bench {
+        Bench {
+            program: [0; 4096],
+            rows: 0,
+            config: Config::fresh(),
+            line: 0,
+            page: Page::new(stdout),
+            is_over: false,
+        }
     }
-    let did = r.did;
-    let at = output::put_step(out, b.at, did, after.scalars, r.made, r.gone);
-    b.with(after, at)
-}
 
-fn told(r: RunReply, b: Bench, out: &mut Page) -> Bench {
-    let after = r.config;
-    if r.number != 0 {
-        let at = output::put_refused(out, b.at, r.number);
-        return b.with(after, at);
+    pub fn sense(&mut self, numbers: &[u32]) {
+        let rows = &self.program[..self.rows as usize * 8];
+        let answer = controller::sense(rows, &mut self.config, numbers);
+        self.page.put_counts(b"sensed", answer);
     }
-    let stop = r.stop;
-    let at = output::put_run(out, b.at, r.steps, stop, r.made, r.gone);
-    b.with(after, at)
-}
 
-pub fn run(program: &[u32], limit: u32, b: Bench, out: &mut Page) -> Bench {
-    let config = b.config;
-    told(interpreter::run(program, config, limit), b, out)
-}
-
-// A run is its steps in turn: they are taken one by one, then the run's own line is put.
-pub fn trace(program: &[u32], limit: u32, b: Bench, out: &mut Page) -> Bench {
-    let config = b.config;
-    let r = interpreter::run(program, config, limit);
-    let taken = steps(program, r.steps, b, out);
-    told(r, b.with(config, taken.at), out)
-}
-
-fn steps(program: &[u32], count: u32, b: Bench, out: &mut Page) -> Bench {
-    let mut s = b;
-    let mut k: u32 = 0;
-    while k < count {
-        s = step(program, s, out);
-        k += 1;
+    pub fn answer(&mut self, n: u32) {
+        let rows = &self.program[..self.rows as usize * 8];
+        let answer = controller::answer(rows, &mut self.config, n);
+        self.page.put_counts(b"answered", answer);
     }
-    s
-}
 
-// "`kind id p a b sub`, then live instances by id"
-fn put_page(out: &mut Page, at: usize, words: &[u32], scalars: Scalars) -> usize
-    requires { Listable words.now scalars }
-{
-    let mut page = [0u8; 16384];
-    let n = listing::put_listing(words, scalars, &mut page);
-    output::put(out, at, &page[..n])
-}
-
-// A configuration that is not well formed has no listing.
-pub fn show(program: &[u32], b: Bench, out: &mut Page) -> Bench {
-    let config = b.config;
-    let words = config.words;
-    let scalars = config.scalars;
-    if !interpreter::admits(program, config) {
-        let at = output::put_refused(out, b.at, 1);
-        return b.with(config, at);
+    pub fn delete(&mut self, id: u32) {
+        let rows = &self.program[..self.rows as usize * 8];
+        let answer = controller::delete(rows, &mut self.config, id);
+        self.page.put_counts(b"deleted", answer);
     }
-    let at = put_page(out, b.at, &words, scalars);
-    b.with(config, at)
+
+    pub fn step(&mut self) {
+        let rows = &self.program[..self.rows as usize * 8];
+        let answer = controller::step(rows, &mut self.config);
+        self.page.put_step(answer, self.config.scalars);
+    }
+
+    pub fn run(&mut self, limit: u32) {
+        let rows = &self.program[..self.rows as usize * 8];
+        let answer = controller::run(rows, &mut self.config, limit);
+        self.page.put_run(answer);
+    }
+
+    // A run is its steps in turn: they are taken one by one, then the run's own line is put.
+    pub fn trace(&mut self, limit: u32) {
+        let mut after = self.config;
+        let answer = controller::run(&self.program[..self.rows as usize * 8], &mut after, limit);
+        if let Ok(told) = answer {
+            for _ in 0..told.steps {
+                self.step();
+            }
+        }
+        self.page.put_run(answer);
+    }
+
+    // "`kind id p a b sub`, then live instances by id". A configuration that is not well formed has no listing.
+    #[tactic(auto, using(crate::proofs::Bounds::admitted_listable))]
+    pub fn show(&mut self) {
+        let rows = &self.program[..self.rows as usize * 8];
+        if !in_place::admits(rows, &self.config.words, self.config.scalars) {
+            return self.page.put_refused(Refusal::NotWellFormed);
+        }
+        let listed = listing::listing(&self.config.words, self.config.scalars);
+        self.page.put(listed.as_slice());
+    }
 }

@@ -27,48 +27,29 @@ mod output;
 mod raw;
 mod reasons;
 
-use output::{Bench, Page};
-use state::Config;
+use calls::Bench;
 use std::io;
 
 // A proved loop has to end: so many lines no script has.
 const MOST_LINES: u64 = 1000000000000000000;
 
 fn main(rt: HostRuntime) -> io::Result<()> {
-    let mut program = [0u32; 4096];
-    let mut rows: u32 = 0;
     let mut stdin = rt.stdin();
-    let mut page = Page::new(rt.stdout());
+    let mut bench = Bench::new(rt.stdout());
     let mut script = [0u8; 65536];
     let mut from: usize = 0;
     let mut to: usize = 0;
-    let mut bench = Bench {
-        config: Config::fresh(),
-        line: 0,
-        at: 0,
-        is_over: false,
-    };
-    let mut line: u64 = 0;
-    while line < MOST_LINES {
-        line += 1;
+    for line in 1..MOST_LINES {
+        bench.line = line;
         match input::next_line(&mut stdin, &mut script, from, to) {
             Ok(next) => {
-                let turned = lines::turn(
-                    &rt,
-                    &mut program,
-                    rows,
-                    &script[next.from..next.end],
-                    bench.at_line(line),
-                    &mut page,
-                );
-                bench = turned.bench;
-                rows = turned.rows;
+                bench.turn(&rt, &script[next.from..next.end]);
                 from = next.behind;
                 to = next.to;
             }
-            Err(reason) => bench = lines::left(reason, bench.at_line(line), &mut page),
+            Err(reason) => bench.leave(reason),
         }
-        page.written?;
+        bench.page.written?;
         if bench.is_over {
             return Ok(());
         }

@@ -1,57 +1,22 @@
-// What is printed: bytes, numbers and the lines of the answers, gathered in a buffer that is written when it is full.
+// What is printed: bytes, numbers and the lines of the answers, gathered in a page that is written when it is full.
+ghost use Rattle.std.specs.Prelude.{◌≡◌};
+ghost use Rattle.arrayvec.specs.ArrayVec.{array_vec_len};
+
 use crate::reasons;
+use arrayvec::ArrayVec;
+use in_place::{Counts, Ran, Stepped};
 use itoa::Buffer;
+use model::{LoadError, Refusal};
 use running::Stop;
-use state::{Config, Scalars};
+use state::Scalars;
 use std::io;
 use std::io::Stdout;
 use stepping::{Did, How, Made};
 
-// The configuration, the number of the script's line, how many bytes of output are gathered, and whether the script is left.
-#[derive(Clone, Copy)]
-pub struct Bench {
-    pub config: Config,
-    pub line: u64,
-    pub at: usize,
-    pub is_over: bool,
-}
-
-impl Bench {
-    pub fn at_line(self, line: u64) -> Bench {
-        let config = self.config;
-        Bench {
-            config,
-            line,
-            at: 0,
-            is_over: self.is_over,
-        }
-    }
-
-    // With a configuration, and so much output.
-    pub fn with(self, config: Config, at: usize) -> Bench {
-        Bench {
-            config,
-            line: self.line,
-            at,
-            is_over: self.is_over,
-        }
-    }
-
-    pub fn over(self, at: usize) -> Bench {
-        let config = self.config;
-        Bench {
-            config,
-            line: self.line,
-            at,
-            is_over: true,
-        }
-    }
-}
-
-// The buffer, where it is written, and the last write that failed.
+// What is gathered, where it is written, and the last write that failed.
 #[derive(Drop)]
 pub struct Page {
-    bytes: [u8; 4096],
+    bytes: ArrayVec<u8, 4096>,
     stdout: Stdout,
     pub written: io::Result<()>,
 }
@@ -59,166 +24,150 @@ pub struct Page {
 impl Page {
     pub fn new(stdout: Stdout) -> Page {
         Page {
-            bytes: [0; 4096],
+            bytes: ArrayVec::new(),
             stdout,
             written: Ok(()),
         }
     }
-}
 
-// One byte more. A buffer that is full is written first.
-fn put_byte(out: &mut Page, at: usize, byte: u8) -> usize {
-    if 4096 <= at {
-        write(out, 4096);
-        out.bytes[0] = byte;
-        return 1;
-    }
-    out.bytes[at] = byte;
-    at + 1
-}
-
-pub fn put(out: &mut Page, at: usize, bytes: &[u8]) -> usize {
-    let mut next = at;
-    let mut i: usize = 0;
-    while i < bytes.len() {
-        next = put_byte(out, next, bytes[i]);
-        i += 1;
-    }
-    next
-}
-
-pub fn put_number(out: &mut Page, at: usize, n: u64) -> usize {
-    let mut digits = Buffer::new();
-    put(out, at, digits.format(n).as_bytes())
-}
-
-// Words and the number behind them.
-pub fn put_with(out: &mut Page, at: usize, words: &[u8], n: u32) -> usize {
-    let next = put(out, at, words);
-    put_number(out, next, n as u64)
-}
-
-// Numbers, a space before each.
-pub fn put_numbers(out: &mut Page, at: usize, numbers: &[u32]) -> usize {
-    let mut next = at;
-    let mut i: usize = 0;
-    while i < numbers.len() {
-        next = put_with(out, next, b" ", numbers[i]);
-        i += 1;
-    }
-    next
-}
-
-fn write_first(stdout: Stdout, bytes: &[u8], n: usize) -> io::Result<()> {
-    if n <= bytes.len() {
-        stdout.write_all(&bytes[..n])?;
-    }
-    Ok(())
-}
-
-// Writes what was gathered.
-pub fn write(out: &mut Page, at: usize) {
-    if let Err(e) = write_first(out.stdout, &out.bytes, at) {
-        out.written = Err(e);
-    }
-}
-
-// The end of the line of an accepted call.
-pub fn put_sums(out: &mut Page, at: usize, made: u32, gone: u32) -> usize {
-    let at = put_with(out, at, b" made ", made);
-    let at = put_with(out, at, b" gone ", gone);
-    put(out, at, b"\n")
-}
-
-// A colon, the cause of a refusal, the end of the line.
-fn put_cause(out: &mut Page, at: usize, number: u32) -> usize {
-    let at = put(out, at, b": ");
-    let at = put(out, at, refusals::refusal_words(number));
-    put(out, at, b"\n")
-}
-
-pub fn put_refused(out: &mut Page, at: usize, number: u32) -> usize {
-    let at = put_with(out, at, b"refused ", number);
-    put_cause(out, at, number)
-}
-
-// A refused load, with the cause as exact as it can be told.
-pub fn put_load_refused(out: &mut Page, at: usize, text: &[u8], number: u32, line: u32) -> usize {
-    let at = put_with(out, at, b"refused ", number);
-    let at = put_with(out, at, b" line ", line);
-    let at = put(out, at, b": ");
-    let at = reasons::put_reason(out, at, text, number);
-    put(out, at, b"\n")
-}
-
-// A call with no answer of its own but what it made and what went.
-pub fn put_changed(
-    out: &mut Page,
-    at: usize,
-    word: &[u8],
-    number: u32,
-    made: u32,
-    gone: u32,
-) -> usize {
-    if number != 0 {
-        return put_refused(out, at, number);
-    }
-    let at = put(out, at, word);
-    put_sums(out, at, made, gone)
-}
-
-fn put_fired(out: &mut Page, at: usize, set: u32, rule: u32, made: Made) -> usize {
-    let at = put_with(out, at, b"fired ", set);
-    let at = put_with(out, at, b" ", rule);
-    match made {
-        Made::Plan(id) => put_with(out, at, b" plan ", id),
-        Made::Atom(id) => put_with(out, at, b" atom ", id),
-        Made::Nothing => put(out, at, b" none"),
-    }
-}
-
-fn put_executed(out: &mut Page, at: usize, plan: u32, how: How) -> usize {
-    let at = put_with(out, at, b"executed ", plan);
-    match how {
-        How::Empty => put(out, at, b" empty"),
-        How::Held => put(out, at, b" held"),
-        How::Done => put(out, at, b" done"),
-        How::Failed => put(out, at, b" failed"),
-    }
-}
-
-// What a step did, with the phase or the cycle that it left.
-fn put_did(out: &mut Page, at: usize, did: Did, left: Scalars) -> usize {
-    match did {
-        Did::Fired { set, rule, made } => put_fired(out, at, set, rule, made),
-        Did::MovedOn => put_with(out, at, b"moved ", left.phase),
-        Did::Executed { plan, how } => put_executed(out, at, plan, how),
-        Did::Waits { plan, p, a, b } => {
-            let at = put(out, at, b"waits");
-            put_numbers(out, at, &[plan, p, a, b])
+    // Writes what was gathered, so that the page is empty.
+    pub fn write(&mut self)
+        ensures { array_vec_len self.new.bytes ≡ 0 }
+    {
+        if let Err(e) = self.stdout.write_all(self.bytes.as_slice()) {
+            self.written = Err(e);
         }
-        Did::CycleEnded => put_with(out, at, b"ended ", left.cycle),
-        Did::Refused => at,
+        self.bytes.clear();
     }
-}
 
-pub fn put_step(out: &mut Page, at: usize, did: Did, left: Scalars, made: u32, gone: u32) -> usize {
-    let at = put_did(out, at, did, left);
-    put_sums(out, at, made, gone)
-}
-
-fn put_stop(out: &mut Page, at: usize, stop: Stop) -> usize {
-    match stop {
-        Stop::Phase0 => put(out, at, b"phase0"),
-        Stop::Waiting => put(out, at, b"waiting"),
-        Stop::Limit => put(out, at, b"limit"),
-        Stop::Refused(number) => put_with(out, at, b"refused ", number),
+    // One byte more. A page that is full is written first.
+    fn put_byte(&mut self, byte: u8) {
+        if self.bytes.try_push(byte).is_err() {
+            self.write();
+            self.bytes.push(byte);
+        }
     }
-}
 
-pub fn put_run(out: &mut Page, at: usize, steps: u32, stop: Stop, made: u32, gone: u32) -> usize {
-    let at = put_with(out, at, b"ran ", steps);
-    let at = put(out, at, b" until ");
-    let at = put_stop(out, at, stop);
-    put_sums(out, at, made, gone)
+    pub fn put(&mut self, bytes: &[u8]) {
+        for byte in bytes {
+            self.put_byte(*byte);
+        }
+    }
+
+    pub fn put_number(&mut self, n: u64) {
+        let mut digits = Buffer::new();
+        self.put(digits.format(n).as_bytes());
+    }
+
+    // Words and the number behind them.
+    pub fn put_with(&mut self, words: &[u8], n: u32) {
+        self.put(words);
+        self.put_number(n as u64);
+    }
+
+    // Numbers, a space before each.
+    pub fn put_numbers(&mut self, numbers: &[u32]) {
+        for n in numbers {
+            self.put_with(b" ", *n);
+        }
+    }
+
+    // The end of the line of an accepted call.
+    fn put_sums(&mut self, made: u32, gone: u32) {
+        self.put_with(b" made ", made);
+        self.put_with(b" gone ", gone);
+        self.put(b"\n");
+    }
+
+    pub fn put_refused(&mut self, refusal: Refusal) {
+        self.put_with(b"refused ", refusal.number());
+        self.put(b": ");
+        self.put(refusals::refusal_words(refusal.number()));
+        self.put(b"\n");
+    }
+
+    // A refused load, with the cause as exact as it can be told.
+    pub fn put_load_refused(&mut self, text: &[u8], error: LoadError) {
+        self.put_with(b"refused ", error.refusal.number());
+        self.put_with(b" line ", error.line);
+        self.put(b": ");
+        reasons::put_reason(self, text, error.refusal);
+        self.put(b"\n");
+    }
+
+    // A call with no answer of its own but what it made and what went.
+    pub fn put_counts(&mut self, word: &[u8], answer: Result<Counts, Refusal>) {
+        match answer {
+            Ok(told) => {
+                self.put(word);
+                self.put_sums(told.made, told.gone);
+            }
+            Err(refusal) => self.put_refused(refusal),
+        }
+    }
+
+    fn put_fired(&mut self, set: u32, rule: u32, made: Made) {
+        self.put_with(b"fired ", set);
+        self.put_with(b" ", rule);
+        match made {
+            Made::Plan(id) => self.put_with(b" plan ", id),
+            Made::Atom(id) => self.put_with(b" atom ", id),
+            Made::Nothing => self.put(b" none"),
+        }
+    }
+
+    fn put_executed(&mut self, plan: u32, how: How) {
+        self.put_with(b"executed ", plan);
+        match how {
+            How::Empty => self.put(b" empty"),
+            How::Held => self.put(b" held"),
+            How::Done => self.put(b" done"),
+            How::Failed => self.put(b" failed"),
+        }
+    }
+
+    // What a step did, with the phase or the cycle that it left.
+    fn put_did(&mut self, did: Did, left: Scalars) {
+        match did {
+            Did::Fired { set, rule, made } => self.put_fired(set, rule, made),
+            Did::MovedOn => self.put_with(b"moved ", left.phase),
+            Did::Executed { plan, how } => self.put_executed(plan, how),
+            Did::Waits { plan, p, a, b } => {
+                self.put(b"waits");
+                self.put_numbers(&[plan, p, a, b]);
+            }
+            Did::CycleEnded => self.put_with(b"ended ", left.cycle),
+        }
+    }
+
+    pub fn put_step(&mut self, answer: Result<Stepped, Refusal>, left: Scalars) {
+        match answer {
+            Ok(told) => {
+                self.put_did(told.did, left);
+                self.put_sums(told.made, told.gone);
+            }
+            Err(refusal) => self.put_refused(refusal),
+        }
+    }
+
+    fn put_stop(&mut self, stop: Stop) {
+        match stop {
+            Stop::Phase0 => self.put(b"phase0"),
+            Stop::Waiting => self.put(b"waiting"),
+            Stop::Limit => self.put(b"limit"),
+            Stop::Refused(refusal) => self.put_with(b"refused ", refusal.number()),
+        }
+    }
+
+    pub fn put_run(&mut self, answer: Result<Ran, Refusal>) {
+        match answer {
+            Ok(told) => {
+                self.put_with(b"ran ", told.steps);
+                self.put(b" until ");
+                self.put_stop(told.stop);
+                self.put_sums(told.made, told.gone);
+            }
+            Err(refusal) => self.put_refused(refusal),
+        }
+    }
 }

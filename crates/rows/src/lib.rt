@@ -76,8 +76,8 @@ fn atom_row(r: Row) -> bool
 }
 
 // 3: "op 40 a ceiling, at most one per predicate", "a (1 to 65,535) is taken as predicate b (1 to 255)"
-fn ceiling_row(ceilings: &[u8], r: Row) -> bool
-    requires { (length ceilings.now ≡ 256) × (r.p ≤ 255) }
+fn ceiling_row(ceilings: &[u8; 256], r: Row) -> bool
+    requires { r.p ≤ 255 }
     ensures { result ≡ ceiling_row (record at_first { ceilings = ceilings.now }) r }
 {
     let ceiling = ceilings[r.p as usize];
@@ -85,8 +85,8 @@ fn ceiling_row(ceilings: &[u8], r: Row) -> bool
 }
 
 // 3: "Set 0 rows have rule 0, part 0"
-fn set_0_row(ceilings: &[u8], r: Row) -> bool
-    requires { (length ceilings.now ≡ 256) × (r.p ≤ 255) }
+fn set_0_row(ceilings: &[u8; 256], r: Row) -> bool
+    requires { r.p ≤ 255 }
     ensures { result ≡ set_0_row (record at_first { ceilings = ceilings.now }) r }
 {
     (r.rule == 0)
@@ -199,8 +199,8 @@ pub fn begun(s: RuleScan, r: Row) -> RuleScan
 
 // 3: "row breaks a rule of its op, part or order"; s is the scan before the row, t as the row finds it
 #[tactic(auto, unfolding(model::specs::Load::breaks, model::specs::Load::rule_row, model::specs::Load::action))]
-fn breaks(s: RuleScan, t: RuleScan, ceilings: &[u8], r: Row) -> bool
-    requires { Small (whole s []) × (length ceilings.now ≡ 256) × (r.p ≤ 255) }
+fn breaks(s: RuleScan, t: RuleScan, ceilings: &[u8; 256], r: Row) -> bool
+    requires { Small (whole s []) × (r.p ≤ 255) }
     ensures { result ≡ is-breaking (whole s ceilings.now) (whole t ceilings.now) r }
 {
     if !in_order(s.place, r) {
@@ -229,8 +229,8 @@ fn valueless(s: RuleScan, r: Row) -> bool
 }
 
 #[tactic(auto, unfolding(model::specs::Load::with_ceiling))]
-fn mark_ceiling(ceilings: &mut [u8], r: Row)
-    requires { (length ceilings.old ≡ 256) × (r.p ≤ 255) }
+fn mark_ceiling(ceilings: &mut [u8; 256], r: Row)
+    requires { r.p ≤ 255 }
     ensures { ceilings.new ≡ with_ceiling r ceilings.old }
 {
     if (r.set == 0) & (r.op == 40) {
@@ -254,8 +254,8 @@ fn taken(s: RuleScan, r: Row) -> RuleScan
 
 // "on each 2, 5, 3, 4": the refusal that a readable row meets.
 #[tactic(auto, unfolding(model::specs::Load::fault, model::specs::Load::too_many, model::specs::Load::valueless))]
-fn fault(s: RuleScan, t: RuleScan, ceilings: &[u8], r: Row) -> Result<(), Refusal>
-    requires { Small (whole s []) × (length ceilings.now ≡ 256) × (r.p ≤ 255) }
+fn fault(s: RuleScan, t: RuleScan, ceilings: &[u8; 256], r: Row) -> Result<(), Refusal>
+    requires { Small (whole s []) × (r.p ≤ 255) }
     ensures { RefusedBy (fault-of (whole s ceilings.now) (whole t ceilings.now) r) result }
 {
     if too_many(s, r) {
@@ -273,8 +273,8 @@ fn fault(s: RuleScan, t: RuleScan, ceilings: &[u8], r: Row) -> Result<(), Refusa
 // The tests on a readable row: the scan after it, or the refusal with its line. "a rule lacking rows is 3 at its last line, found when a
 // readable row of another rule or the end of the text follows"
 #[tactic(auto, unfolding(model::specs::Load::take_row, crate::specs::Scanning::verdict_of))]
-pub fn take_row(s: RuleScan, ceilings: &mut [u8], r: Row) -> Result<RuleScan, LoadError>
-    requires { Small (whole s ceilings.old) × (length ceilings.old ≡ 256) × (r.p ≤ 255) }
+pub fn take_row(s: RuleScan, ceilings: &mut [u8; 256], r: Row) -> Result<RuleScan, LoadError>
+    requires { Small (whole s ceilings.old) × (r.p ≤ 255) }
     ensures { verdict_of result ceilings.new ≡ take_row (whole s ceilings.old) r }
 {
     let left_lacking = lacking(s) & !same_rule(s.place, r);

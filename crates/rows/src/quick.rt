@@ -213,8 +213,8 @@ fn in_rule(t: Place, valued: &mut [u8; 9], r: Row) -> Option<Place>
 }
 
 // A row of set 0: "op 41 an initial atom p, a, b" or a ceiling, with "rule 0, part 0".
-fn in_set_0(t: Place, ceilings: &mut [u8], r: Row) -> Option<Place>
-    requires { Low t × (r.set ≡ 0) × (length ceilings.old ≡ 256) × (r.p ≤ 255) }
+fn in_set_0(t: Place, ceilings: &mut [u8; 256], r: Row) -> Option<Place>
+    requires { Low t × (r.set ≡ 0) × (r.p ≤ 255) }
     ensures { IfSome result (λ u. FitsSet0 t ceilings.old r u ceilings.new) }
 {
     if !((r.rule == 0) & (r.part == 0) & (1 <= r.p) & (r.i == 9)) {
@@ -240,8 +240,8 @@ fn is_bounded(r: Row) -> bool
 }
 
 // The tests on a row in the order that decides soonest: most rows of a program pass them.
-pub fn quick_row(s: Place, valued: &mut [u8; 9], ceilings: &mut [u8], r: Row) -> Option<Place>
-    requires { Low s × (length valued.old ≡ 9) × (length ceilings.old ≡ 256) }
+pub fn quick_row(s: Place, valued: &mut [u8; 9], ceilings: &mut [u8; 256], r: Row) -> Option<Place>
+    requires { Low s }
     ensures long { length valued.new ≡ 9 }
     ensures passed { IfSome result (λ u. Passes s valued.old ceilings.old r u valued.new ceilings.new) }
 {

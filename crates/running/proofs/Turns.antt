@@ -1,5 +1,5 @@
 -- Steps in turn: what a run of at most so many steps is, once some of them are taken.
-use Rattle.std.specs.Prelude.{if◌then◌else◌}
+use Rattle.std.specs.Prelude.{if◌then◌else◌, Ok, Err}
 use mathlib.Core.Path.{◌≡◌, refl, sym, ap, ◌∙◌, subst}
 use mathlib.Core.Bool.{Bool, true, false, not}
 use mathlib.Core.Logic.{◌≢◌}
@@ -10,6 +10,8 @@ use lib.Dec.{eqb}
 use lib.ListN.{length, length-map}
 use borrow.Author.Tests.{eq-eqb, ne_eqb}
 use Rattle.model.specs.declared.Row.{Row}
+use Rattle.model.specs.declared.refusal.Refusal.{Refusal}
+use Rattle.model.specs.Refusals.{number_of}
 use Rattle.model.specs.declared.Atom.{Atom}
 use Rattle.model.specs.Configuration.{Config}
 use Rattle.model.specs.Graph.{Graph}
@@ -30,69 +32,72 @@ use Rattle.program.specs.Rows.{rows_of}
 use Rattle.state.specs.declared.Scalars.{Scalars}
 use Rattle.state.specs.View.{config_of}
 use Rattle.state.proofs.Live.{atoms_counted, plans_counted}
+use Rattle.state.proofs.Room.{numbered}
+use Rattle.stepping.proofs.Standing.{shaped, whole as sound}
 use Rattle.stepping.specs.declared.Progress.{Progress}
 use Rattle.stepping.specs.Steps.{answered_by, WellWords}
 use Rattle.running.specs.Running.{InTurn}
 
 -- ONE STEP, from what it answered
-module _ (program words words' : List ℕ) (s : Scalars) (r : Progress) (e : answered_by s.next words' r ≡ answer_of (config_of words s) (step (rows_of program) (config_of words s))) where
+module _ (program words words' : List ℕ) (s : Scalars) where
   abbrev P : List Row
   P = rows_of program
 
   abbrev C : Config
   C = config_of words s
 
-  abbrev C' : Config
-  C' = config_of words' r.scalars
-
-  pub was_refused : r.number ≢ 0 → step P C ≡ refused r.number
+  pub was_refused : (x : Refusal) → answered_by s words' (Err x) ≡ answer_of C (step P C) → step P C ≡ refused (number_of x)
   unfolding answer_of
-  was_refused z = at (step P C) refl e
+  was_refused x e = at (step P C) refl e
     where
-      at : (o : Outcome) → step P C ≡ o → answered_by s.next words' r ≡ answer_of C o → step P C ≡ refused r.number
+      at : (o : Outcome) → step P C ≡ o → answered_by s words' (Err x) ≡ answer_of C o → step P C ≡ refused (number_of x)
       at (refused n) d f = d ∙ ap refused (sym (ap (λ (a : Answer). a.number) f))
-      at (accepted L) d f = absurd (z (ap (λ (a : Answer). a.number) f))
+      at (accepted L) d f = absurd (numbered x (ap (λ (a : Answer). a.number) f))
 
-  -- the log of an accepted step, and what it says of the words
-  pub record Took : Type 0 where
-    pub log : Log
-    pub is : step P C ≡ accepted log
-    pub config : log.config ≡ C'
-    pub gone : log.gone ≡ r.gone
+  module _ (r : Progress) where
+    abbrev C' : Config
+    C' = config_of words' r.scalars
 
-  pub was_taken : r.number ≡ 0 → Took
-  unfolding answer_of Numbered
-  was_taken z = at (step P C) refl e (step_numbered P C)
-    where
-      at : (o : Outcome) → step P C ≡ o → answered_by s.next words' r ≡ answer_of C o → Numbered o → Took
-      at (refused n) d f h = let m : r.number ≡ n = ap (λ (a : Answer). a.number) f in absurd (omega arith)
-      at (accepted L) d f h = record { log = L; is = d; config = sym (ap (λ (a : Answer). a.config) f); gone = sym (ap (λ (a : Answer). a.gone) f) }
+    -- the log of an accepted step, and what it says of the words
+    pub record Took : Type 0 where
+      pub log : Log
+      pub is : step P C ≡ accepted log
+      pub config : log.config ≡ C'
+      pub gone : log.gone ≡ r.gone
 
-  module _ (t : Took) where
-    pub well_after : length words' ≡ 2432 → WellWords program words' r.scalars
-    unfolding work
-    well_after l = record { long = l; well = subst (λ (d : Config). given_well P d ≡ true) t.config (keeps_well_formed.calls_keep (to_step P) C t.log t.is) }
+    pub was_taken : answered_by s words' (Ok r) ≡ answer_of C (step P C) → Took
+    unfolding answer_of Numbered
+    was_taken e = at (step P C) refl e (step_numbered P C)
+      where
+        at : (o : Outcome) → step P C ≡ o → answered_by s words' (Ok r) ≡ answer_of C o → Numbered o → Took
+        at (refused n) d f h = let m : 0 ≡ n = ap (λ (a : Answer). a.number) f in absurd (omega arith)
+        at (accepted L) d f h = record { log = L; is = d; config = sym (ap (λ (a : Answer). a.config) f); gone = sym (ap (λ (a : Answer). a.gone) f) }
 
-    faithful : Faithful C t.log
-    faithful = (after_of (Ends P C) (step_ends P C) t.is).ends.faithful
+    module _ (t : Took) where
+      well_after : WellWords program words' r.scalars
+      unfolding work
+      well_after = subst (λ (d : Config). given_well P d ≡ true) t.config (keeps_well_formed.calls_keep (to_step P) C t.log t.is)
 
-    -- the next id rises by what is made, and what is made but not gone is alive
-    pub next_rises : r.scalars.next ≡ s.next + all_made t.log.events
-    next_rises = sym (ap (λ (d : Config). d.next) t.config) ∙ ap (λ (g : Graph). g.next) faithful.turns ∙ changes_next (graph C) t.log.events
+      faithful : Faithful C t.log
+      faithful = (after_of (Ends P C) (step_ends P C) t.is).ends.faithful
 
-    pub adds_up : r.scalars.atoms + r.scalars.plans + r.gone ≡ s.atoms + s.plans + all_made t.log.events
-    adds_up =
-        let es = t.log.events in
-        let h = changes_size (graph C) es in
-        let g : graph C' ≡ changes (graph C) es = ap graph (sym t.config) ∙ faithful.turns in
-        let a : length (graph C').atoms ≡ length (changes (graph C) es).atoms = ap (λ (x : Graph). length x.atoms) g in
-        let b : length (graph C').plans ≡ length (changes (graph C) es).plans = ap (λ (x : Graph). length x.plans) g in
-        let d : length (graph C').atoms ≡ r.scalars.atoms = length-map C'.atoms (λ (x : Atom). x.id) ∙ atoms_counted words' r.scalars in
-        let i : length (graph C').plans ≡ r.scalars.plans = length-map C'.plans node ∙ plans_counted words' r.scalars in
-        let j : length (graph C).atoms ≡ s.atoms = length-map C.atoms (λ (x : Atom). x.id) ∙ atoms_counted words s in
-        let k : length (graph C).plans ≡ s.plans = length-map C.plans node ∙ plans_counted words s in
-        let m : r.gone ≡ all_gone (graph C) es = sym t.gone ∙ faithful.gone_is in
-        omega arith
+      -- the next id rises by what is made, and what is made but not gone is alive
+      pub next_rises : r.scalars.next ≡ s.next + all_made t.log.events
+      next_rises = sym (ap (λ (d : Config). d.next) t.config) ∙ ap (λ (g : Graph). g.next) faithful.turns ∙ changes_next (graph C) t.log.events
+
+      adds_up : r.scalars.atoms + r.scalars.plans + r.gone ≡ s.atoms + s.plans + all_made t.log.events
+      adds_up =
+          let es = t.log.events in
+          let h = changes_size (graph C) es in
+          let g : graph C' ≡ changes (graph C) es = ap graph (sym t.config) ∙ faithful.turns in
+          let a : length (graph C').atoms ≡ length (changes (graph C) es).atoms = ap (λ (x : Graph). length x.atoms) g in
+          let b : length (graph C').plans ≡ length (changes (graph C) es).plans = ap (λ (x : Graph). length x.plans) g in
+          let d : length (graph C').atoms ≡ r.scalars.atoms = length-map C'.atoms (λ (x : Atom). x.id) ∙ atoms_counted words' r.scalars in
+          let i : length (graph C').plans ≡ r.scalars.plans = length-map C'.plans node ∙ plans_counted words' r.scalars in
+          let j : length (graph C).atoms ≡ s.atoms = length-map C.atoms (λ (x : Atom). x.id) ∙ atoms_counted words s in
+          let k : length (graph C).plans ≡ s.plans = length-map C.plans node ∙ plans_counted words s in
+          let m : r.gone ≡ all_gone (graph C) es = sym t.gone ∙ faithful.gone_is in
+          omega arith
 
 -- A RUN
 -- t steps with m made and n gone, then the run r
@@ -109,7 +114,7 @@ module _ (program words₀ : List ℕ) (s₀ : Scalars) (limit : ℕ) where
   -- after so many steps, with so many made and gone
   pub record Running (words : List ℕ) (s : Scalars) (steps made gone : ℕ) : Type 0 where
     pub turn : InTurn program words s
-    pub below : steps ≤ limit
+    pub few : s₀.atoms + s₀.plans ≤ 320
     pub rises : s.next ≡ s₀.next + made
     pub sums : s.atoms + s.plans + gone ≡ s₀.atoms + s₀.plans + made
     pub is : whole ≡ before steps made gone (steps_of rows (limit - steps) (config_of words s))
@@ -124,7 +129,7 @@ module _ (program words₀ : List ℕ) (s₀ : Scalars) (limit : ℕ) where
   pub running_first : InTurn program words₀ s₀ → Running words₀ s₀ 0 0 0
   running_first t = record {
     turn = t;
-    below = omega arith;
+    few = let h = sound program words₀ s₀ t.well in omega (arith, h.few_atoms, h.few_plans);
     rises = omega arith;
     sums = omega arith;
     is = ap (λ (n : ℕ). steps_of rows n (config_of words₀ s₀)) (let e : limit ≡ limit - 0 = omega arith in e) ∙ none_before (steps_of rows (limit - 0) (config_of words₀ s₀));
@@ -144,21 +149,30 @@ module _ (program words₀ : List ℕ) (s₀ : Scalars) (limit : ℕ) where
     abbrev here : Config
     here = config_of words s
 
-    pub at_end : limit ≤ steps → record { config = config_of words s; steps = steps; made = made; gone = gone; stop = at-limit } ≡ whole
+    pub at_end : steps ≡ limit → record { config = config_of words s; steps = limit; made = made; gone = gone; stop = at-limit } ≡ whole
     unfolding steps_of
-    at_end h = stops words s steps made gone at-limit _ w.is (ap (λ (n : ℕ). steps_of rows n here) (let e : limit - steps ≡ 0 = omega arith in e))
+    at_end h =
+        ap (λ (n : ℕ). record { config = config_of words s; steps = n; made = made; gone = gone; stop = at-limit }) (sym h)
+        ∙ stops words s steps made gone at-limit _ w.is (ap (λ (n : ℕ). steps_of rows n here) (let e : limit - steps ≡ 0 = omega arith in e))
 
-    module _ (h : steps < limit) where
+    module _ (h : steps < limit) (words' : List ℕ) where
       one_more : steps_of rows (limit - steps) here ≡ step_then here (steps_of rows (limit - (steps + 1))) (step rows here)
       unfolding steps_of
       one_more = ap (λ (n : ℕ). steps_of rows n here) (let e : limit - steps ≡ suc (limit - (steps + 1)) = omega arith in e)
 
-      pub at_refusal : (n : ℕ) → step rows here ≡ refused n → record { config = config_of words s; steps = steps; made = made; gone = gone; stop = next_refused n } ≡ whole
+      -- the step is refused
+      pub at_refusal : (x : Refusal) → answered_by s words' (Err x) ≡ answer_of here (step rows here) → words' ≡ words →
+          record { config = config_of words' s; steps = steps; made = made; gone = gone; stop = next_refused (number_of x) } ≡ whole
       unfolding step_then
-      at_refusal n e = stops words s steps made gone (next_refused n) _ w.is (one_more ∙ ap (step_then here (steps_of rows (limit - (steps + 1)))) e)
+      at_refusal x e same =
+          ap (λ (l : List ℕ). record { config = config_of l s; steps = steps; made = made; gone = gone; stop = next_refused (number_of x) }) same
+          ∙ stops words s steps made gone (next_refused (number_of x)) _ w.is (one_more ∙ ap (step_then here (steps_of rows (limit - (steps + 1)))) (was_refused program words words' s x e))
 
       -- the step was taken
-      module _ (words' : List ℕ) (r : Progress) (e : answered_by s.next words' r ≡ answer_of (config_of words s) (step rows (config_of words s))) (t : Took program words words' s r e) (l : length words' ≡ 2432) where
+      module _ (r : Progress) (e : answered_by s words' (Ok r) ≡ answer_of here (step rows here)) where
+        abbrev t : Took program words words' s r
+        t = was_taken program words words' s r e
+
         abbrev there : Config
         there = config_of words' r.scalars
 
@@ -167,6 +181,23 @@ module _ (program words₀ : List ℕ) (s₀ : Scalars) (limit : ℕ) where
 
         abbrev more : ℕ
         more = r.scalars.next - s.next
+
+        -- what the sums need to fit
+        pub next_fits : s.next ≤ r.scalars.next
+        next_fits = let h = next_rises program words words' s r t in omega arith
+
+        pub made_fits : made + more ≤ 65536
+        made_fits =
+            let h = next_rises program words words' s r t in
+            let n = (shaped program words' r.scalars (well_after program words words' s r t)).next_fits in
+            omega (arith, w.rises)
+
+        pub gone_fits : gone + r.gone ≤ 66000
+        gone_fits =
+            let h = next_rises program words words' s r t in
+            let d = adds_up program words words' s r t in
+            let n = (shaped program words' r.scalars (well_after program words words' s r t)).next_fits in
+            omega (arith, w.rises, w.sums, w.few)
 
         onward : whole ≡ before (steps + 1) (made + more) (gone + r.gone) rest
         unfolding step_then and_before
@@ -203,9 +234,9 @@ module _ (program words₀ : List ℕ) (s₀ : Scalars) (limit : ℕ) where
 
           pub running_next : r.scalars.waiting ≡ 0 → Running words' r.scalars (steps + 1) (made + more) (gone + r.gone)
           running_next y = record {
-            turn = record { well = well_after program words words' s r e t l; outside = z; idle = y };
-            below = omega arith;
-            rises = let a = next_rises program words words' s r e t in omega (arith, w.rises);
-            sums = let a = next_rises program words words' s r e t in let b = adds_up program words words' s r e t in omega (arith, w.sums, w.rises);
+            turn = record { well = well_after program words words' s r t; outside = z; idle = y };
+            few = w.few;
+            rises = let a = next_rises program words words' s r t in omega (arith, w.rises);
+            sums = let a = next_rises program words words' s r t in let b = adds_up program words words' s r t in omega (arith, w.sums, w.rises);
             is = onward ∙ ap (before (steps + 1) (made + more) (gone + r.gone)) (goes_on true (eq-eqb r.scalars.waiting 0 y));
           }

@@ -1,5 +1,6 @@
 -- What a run leaves, in the paper's terms.
 use Rattle.std.specs.Prelude.{◌≡◌, ◌≢◌, List, ℕ}
+use Rattle.model.specs.Refusals.{number_of}
 use Rattle.model.specs.Run as Run
 use Rattle.state.specs.declared.Scalars.{Scalars}
 use Rattle.state.specs.View.{config_of}
@@ -19,7 +20,7 @@ abbrev pub stop_of : Stop → Run.Stop
 stop_of Phase0 = Run.at-phase-0
 stop_of Waiting = Run.at-waiting
 stop_of Limit = Run.at-limit
-stop_of (Refused n) = Run.next_refused n
+stop_of (Refused e) = Run.next_refused (number_of e)
 
 -- "it returns the steps taken, their made and gone summed, and which"
 abbrev pub run_of : List ℕ → Course → Run.Run

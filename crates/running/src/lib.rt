@@ -1,25 +1,26 @@
 // A step by its phase, in place; and steps in turn.
 #![tactic(auto)]
 
-ghost use Rattle.std.specs.Prelude.{◌≡◌, ◌≢◌, ◌≤◌};
+ghost use Rattle.std.specs.Prelude.{◌≡◌, ◌≤◌, OnErr};
 ghost use Rattle.model.specs.Log.{answer_of};
 ghost use Rattle.model.specs.Calls.{step};
 ghost use Rattle.model.specs.Run.{steps_of};
 ghost use Rattle.program.specs.Rows.{rows_of};
 ghost use Rattle.state.specs.View.{config_of};
-ghost use Rattle.stepping.specs.Steps.{answered_by, WellWords};
+ghost use Rattle.stepping.specs.Steps.{answered_by};
 ghost use Rattle.running.specs.Running.{InTurn, run_of};
 
-use state::Scalars;
+use model::Refusal;
+use state::{Scalars, Words};
 use stepping::Progress;
 
-// Why a run stopped: "phase 0, waiting, the limit, or a next step that would be refused", with its number.
+// Why a run stopped: "phase 0, waiting, the limit, or a next step that would be refused", with its cause.
 #[derive(Clone, Copy)]
 pub enum Stop {
     Phase0,
     Waiting,
     Limit,
-    Refused(u32),
+    Refused(Refusal),
 }
 
 // What a run leaves beside the words: the scalars, "the steps taken, their made and gone summed, and which".
@@ -33,10 +34,11 @@ pub struct Course {
 }
 
 // One step. Refusals 8, 9, 10, 11.
-pub fn advance(program: &[u32], words: &mut [u32], scalars: Scalars) -> Progress
+#[tactic(auto, using(crate::proofs::Advanced::by_its_phase))]
+pub fn advance(program: &[u32], words: &mut Words, scalars: Scalars) -> Result<Progress, Refusal>
     requires { InTurn program.now words.old scalars }
-    ensures result_after { answered_by scalars.next words.new result ≡ answer_of (config_of words.old scalars) (step (rows_of program.now) (config_of words.old scalars)) }
-    ensures untouched { result.number ≢ 0 → words.new ≡ words.old }
+    ensures result_after { answered_by scalars words.new result ≡ answer_of (config_of words.old scalars) (step (rows_of program.now) (config_of words.old scalars)) }
+    ensures untouched { OnErr result (words.new ≡ words.old) }
 {
     if scalars.phase <= formed::sets_of(program) {
         return firing::fire_first(program, words, scalars);
@@ -46,34 +48,34 @@ pub fn advance(program: &[u32], words: &mut [u32], scalars: Scalars) -> Progress
 
 // "takes steps until phase 0, waiting, the limit, or a next step that would be refused, tested in that order after each step (the last
 // also before the first)". The configuration stays well formed, so that is not tested again.
-pub fn run_on(program: &[u32], words: &mut [u32], scalars: Scalars, limit: u32) -> Course
+#[tactic(auto, using(crate::proofs::Turns::made_fits))]
+pub fn run_on(program: &[u32], words: &mut Words, scalars: Scalars, limit: u32) -> Course
     requires { InTurn program.now words.old scalars × (limit ≤ 10000) }
     ensures { run_of words.new result ≡ steps_of (rows_of program.now) limit (config_of words.old scalars) }
 {
     let mut s = scalars;
-    let mut steps: u32 = 0;
     let mut made: u32 = 0;
     let mut gone: u32 = 0;
-    while steps < limit {
-        let p = advance(program, words, s);
-        if p.number != 0 {
-            return Course {
-                scalars: s,
-                steps,
-                made,
-                gone,
-                stop: Stop::Refused(p.number),
-            };
-        }
-        let left = p.scalars;
-        made += left.next - s.next;
+    for steps in 0..limit {
+        let p = match advance(program, words, s) {
+            Ok(p) => p,
+            Err(refusal) => {
+                return Course {
+                    scalars: s,
+                    steps,
+                    made,
+                    gone,
+                    stop: Stop::Refused(refusal),
+                };
+            }
+        };
+        made += p.scalars.next - s.next;
         gone += p.gone;
-        steps += 1;
-        s = left;
+        s = p.scalars;
         if s.phase == 0 {
             return Course {
                 scalars: s,
-                steps,
+                steps: steps + 1,
                 made,
                 gone,
                 stop: Stop::Phase0,
@@ -82,7 +84,7 @@ pub fn run_on(program: &[u32], words: &mut [u32], scalars: Scalars, limit: u32) 
         if s.waiting != 0 {
             return Course {
                 scalars: s,
-                steps,
+                steps: steps + 1,
                 made,
                 gone,
                 stop: Stop::Waiting,
@@ -91,7 +93,7 @@ pub fn run_on(program: &[u32], words: &mut [u32], scalars: Scalars, limit: u32) 
     }
     Course {
         scalars: s,
-        steps,
+        steps: limit,
         made,
         gone,
         stop: Stop::Limit,

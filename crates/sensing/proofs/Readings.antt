@@ -56,9 +56,9 @@ module _ (program : List Row) (r : Reading) (c : Config) where
   senses_withdrawal e words x w L q = rw (ne_eqb r.sign 1 e) (ap (λ (d : Config). (withdraw (equal_atoms (taken_as program r) r.a r.b d) L).config) q ∙ w.leaves L q, ap (λ (d : Config). (withdraw (equal_atoms (taken_as program r) r.a r.b d) L).gone) q ∙ w.counts L q)
 
 -- the words after an atom was made
-pub ready_added : (words words' : List ℕ) (s s' : Scalars) (p a b : ℕ) → Ready words s → s.atoms < 256 → s.next < 65536 → length words' ≡ 2432 → s' ≡ atom_counted s → config_of words' s' ≡ add_atom p a b (config_of words s) → Ready words' s'
-ready_added words words' s s' p a b r h k l q e = record {
-  whole = sound_added words words' s s' r.whole l p a b h q e;
+pub ready_added : (words words' : List ℕ) (s s' : Scalars) (p a b : ℕ) → Ready words s → s.atoms < 256 → s.next < 65536 → s' ≡ atom_counted s → config_of words' s' ≡ add_atom p a b (config_of words s) → Ready words' s'
+ready_added words words' s s' p a b r h k q e = record {
+  whole = sound_added words words' s s' r.whole p a b h q e;
   next_fits = let z : s'.next ≡ s.next + 1 = ap (λ (x : Scalars). x.next) q in omega arith;
 }
 

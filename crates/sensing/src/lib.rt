@@ -10,7 +10,7 @@ ghost use Rattle.sensing.specs.Sensing.{reading_of, reading_at, readings_from, R
 
 use deletion::Removal;
 use model::{Refusal, Row};
-use state::Scalars;
+use state::{Scalars, Words};
 
 // A row of sense.
 #[derive(Clone, Copy)]
@@ -81,7 +81,7 @@ pub fn taken_as(program: &[u32], at: Bounds, reading: Reading) -> u32
 
 // "A withdrawal deletes each live equal atom, lowest id first."
 #[tactic(auto, using(crate::proofs::Withdrawals::withdrawing))]
-pub fn withdraw(words: &mut [u32], scalars: Scalars, p: u32, a: u32, b: u32) -> Removal
+pub fn withdraw(words: &mut Words, scalars: Scalars, p: u32, a: u32, b: u32) -> Removal
     requires { Ready words.old scalars }
     ensures withdraws { Withdraws p a b (config_of words.old scalars) (config_of words.new result.scalars) result.gone }
     ensures ready { Ready words.new result.scalars × (result.gone ≤ 320) }
@@ -108,7 +108,7 @@ pub fn withdraw(words: &mut [u32], scalars: Scalars, p: u32, a: u32, b: u32) -> 
 pub fn sense_row(
     program: &[u32],
     at: Bounds,
-    words: &mut [u32],
+    words: &mut Words,
     scalars: Scalars,
     reading: Reading,
 ) -> Result<Removal, Refusal>
@@ -144,7 +144,7 @@ fn reading_at(rows: &[u32], k: usize) -> Reading
 #[tactic(auto, using(crate::proofs::Readings::in_turn))]
 pub fn sense_rows(
     program: &[u32],
-    words: &mut [u32],
+    words: &mut Words,
     scalars: Scalars,
     rows: &[u32],
 ) -> Result<Removal, Refusal>

@@ -92,7 +92,7 @@ pub with_plan_word_long : (W : List ℕ) (k e v : ℕ) → length (with_plan_wor
 unfolding with_plan_word
 with_plan_word_long W k e v = length-set W (plans_at + (k * 18 + e)) v
 
-module _ (W : List ℕ) (s : Scalars) (k : ℕ) (live : LivePlan W s k) where
+module _ (W : List ℕ) (s : Scalars) (k : ℕ) (long : length W ≡ 2432) (live : LivePlan W s k) where
   few : k < 64
   few = omega (arith, live.there, live.few_plans)
 
@@ -104,10 +104,10 @@ module _ (W : List ℕ) (s : Scalars) (k : ℕ) (live : LivePlan W s k) where
       refl
 
   pub flags_changed : (g : ℕ → ℕ) (v : ℕ) → v ≡ g (plan_at W k).flags → config_of (with_plan_word W k 4 v) s ≡ change_plan (plan_at W k).id (with_flags g) (config_of W s)
-  flags_changed g v e = changed 4 v (with_flags g) (omega arith) (flags_put W k live.long few g v e)
+  flags_changed g v e = changed 4 v (with_flags g) (omega arith) (flags_put W k long few g v e)
 
   pub left_changed : (v : ℕ) → v ≡ (plan_at W k).left - 1 → config_of (with_plan_word W k 3 v) s ≡ change_plan (plan_at W k).id step_removed (config_of W s)
-  left_changed v e = changed 3 v step_removed (omega arith) (left_put W k live.long few v e)
+  left_changed v e = changed 3 v step_removed (omega arith) (left_put W k long few v e)
 
 -- an equal list of plans has equal plans
 pub plan_stands : (n : ℕ) (W X : List ℕ) (k : ℕ) → k < n → plans_of n X ≡ plans_of n W → plan_at X k ≡ plan_at W k

@@ -32,7 +32,7 @@ module _ (W : List ℕ) (s : Scalars) where
 
 -- what a caller needs to change plan k
 pub sound_live : (W : List ℕ) (s : Scalars) (k : ℕ) → SoundWords W s → k < s.plans → LivePlan W s k
-sound_live W s k h there = record { long = h.long; few_atoms = h.few_atoms; few_plans = h.few_plans; there = there; rise = sound_plans_rise W s h.sound }
+sound_live W s k h there = record { few_atoms = h.few_atoms; few_plans = h.few_plans; there = there; rise = sound_plans_rise W s h.sound }
 
 -- an id is found where it stands, or stands nowhere
 module _ (n : ℕ) (W : List ℕ) (x : ℕ) where

@@ -1,7 +1,7 @@
 -- What is written behind the last atom or plan is an instance more, and all else stands.
 use mathlib.Core.Path.{◌≡◌, refl, ap, ◌∙◌}
 use mathlib.Core.Logic.{◌≢◌}
-use mathlib.Core.List.{List, [], ◌++◌}
+use mathlib.Core.List.{List, ◌++◌}
 use Prim.Native.Nat.{ℕ, ◌+◌, ◌-◌, ◌*◌, ◌<◌, ◌≤◌}
 use native.Mathlib.Numerals.{add-one}
 use native.Mathlib.Omega.{arith}
@@ -11,13 +11,13 @@ use Rattle.lists.specs.Tables.{tabulate, trimmed}
 use Rattle.lists.proofs.Tables.{tabulate_same, tabulate_get, tabulate_append}
 use Rattle.table.specs.Rows.{row, placed}
 use Rattle.table.proofs.Rows.{placed_same, placed_before, placed_long}
-use Rattle.table.proofs.Parts.{part, with_part, rest_is, rest_same}
+use Rattle.table.proofs.Parts.{part, with_part}
 use Rattle.model.specs.declared.Atom.{Atom}
 use Rattle.model.specs.Configuration.{Plan, Config, add_atom, add_plan, new_plan}
 use Rattle.state.specs.declared.Scalars.{Scalars}
 use Rattle.state.specs.declared.Plan as Declared
 use Rattle.state.specs.View.{atom_p, atom_a, atom_b, atom_cycle, plans_at, plan_of, atom_at, plan_at, atoms_of, plans_of, config_of, atom_counted, plan_counted, plan_by_value, plan_words}
-use Rattle.state.proofs.View.{atom_same}
+use Rattle.state.proofs.View.{atom_same, plans_lent, plans_left}
 
 -- configurations with the same scalars
 pub config_path : (s : Scalars) (n : ℕ) {xs ys : List Atom} {ps qs : List Plan} {m : ℕ} → xs ≡ ys → ps ≡ qs → n ≡ m →
@@ -31,14 +31,14 @@ unfolding plan_at
 plans_stand W X m e = ap (λ (l : List ℕ). tabulate m (λ (k : ℕ). plan_of (row 18 l k))) e
 
 -- the atoms stand where a call was lent the words behind plans_at alone
-pub atoms_stand : (W ys : List ℕ) (n : ℕ) → n ≤ 256 → length W ≡ 2432 → length ys ≡ length W - plans_at → atoms_of n (with_part plans_at (length W - plans_at) W ys) ≡ atoms_of n W
-atoms_stand W ys n h long e = tabulate_same n (atom_at (with_part plans_at (length W - plans_at) W ys)) (atom_at W)
-    (λ k hk. atom_same W (with_part plans_at (length W - plans_at) W ys) k (omega arith) front)
+pub atoms_stand : (W ys : List ℕ) (n : ℕ) → n ≤ 256 → length W ≡ 2432 → length ys ≡ 1152 → atoms_of n (with_part plans_at 1152 W ys) ≡ atoms_of n W
+atoms_stand W ys n h long e = tabulate_same n (atom_at (with_part plans_at 1152 W ys)) (atom_at W)
+    (λ k hk. atom_same W (with_part plans_at 1152 W ys) k (omega arith) front)
   where
-    front : (j : ℕ) → j < plans_at → get_or (with_part plans_at (length W - plans_at) W ys) j 0 ≡ get_or W j 0
+    front : (j : ℕ) → j < plans_at → get_or (with_part plans_at 1152 W ys) j 0 ≡ get_or W j 0
     front j hj =
         let z : length (take plans_at W) ≡ plans_at = length-take-le plans_at W (omega arith) in
-        get_or-append (take plans_at W) (ys ++ drop (length W - plans_at) (drop plans_at W)) 0 j (omega arith) ∙ get_or-take plans_at W j 0 hj
+        get_or-append (take plans_at W) (ys ++ drop 1152 (drop plans_at W)) 0 j (omega arith) ∙ get_or-take plans_at W j 0 hj
 
 -- an atom's five words behind the last atom
 unfoldable pub with_atom : List ℕ → ℕ → ℕ → ℕ → ℕ → ℕ → ℕ → List ℕ
@@ -102,6 +102,7 @@ atom_appended W s p a b long h =
 
 -- the words of a plan hold it
 plan_of_words : (q : Declared.Plan) → length q.justifications ≡ 4 → length q.values ≡ 8 → plan_of (plan_words q) ≡ plan_by_value q
+unfolding plan_words
 plan_of_words q hj hv =
     let e = tabulate_get 4 q.justifications 0 hj in
     let f = tabulate_get 8 q.values 0 hv in
@@ -113,18 +114,18 @@ plan_made s t n left js vs = record { id = s.next; set = t; rule = n; left = lef
 
 -- a call was lent the words behind plans_at and left ys there
 pub plan_appended : (W : List ℕ) (s : Scalars) (t n left : ℕ) (js vs ys : List ℕ) → length W ≡ 2432 → s.atoms ≤ 256 → s.plans < 64 → length js ≡ 4 → length vs ≡ 8 →
-    ys ≡ placed 18 (part plans_at (length W - plans_at) W) s.plans (plan_words (plan_made s t n left js vs)) →
-    config_of (with_part plans_at (length W - plans_at) W ys) (plan_counted s) ≡ add_plan t n vs left (trimmed js) (config_of W s)
-unfolding plan_at
+    ys ≡ placed 18 (part plans_at 1152 W) s.plans (plan_words (plan_made s t n left js vs)) →
+    config_of (with_part plans_at 1152 W ys) (plan_counted s) ≡ add_plan t n vs left (trimmed js) (config_of W s)
+unfolding plan_at plan_words
 plan_appended W s t n left js vs ys long ha hp hj hv e =
     let new : List ℕ = plan_words (plan_made s t n left js vs) in
     let P : List ℕ = drop plans_at W in
-    let X : List ℕ = with_part plans_at (length W - plans_at) W ys in
+    let X : List ℕ = with_part plans_at 1152 W ys in
     let z : length P ≡ length W - plans_at = length-drop plans_at W in
-    let is : ys ≡ placed 18 P s.plans new = e ∙ ap (λ (l : List ℕ). placed 18 l s.plans new) (rest_is plans_at W []) in
+    let is : ys ≡ placed 18 P s.plans new = e ∙ ap (λ (l : List ℕ). placed 18 l s.plans new) (plans_lent W long) in
     let fits : s.plans * 18 + 18 ≤ length P = omega arith in
-    let same : drop plans_at X ≡ placed 18 P s.plans new = rest_same plans_at W ys (omega arith) ∙ is in
-    let ly : length ys ≡ length W - plans_at = ap length is ∙ placed_long 18 P s.plans new refl fits ∙ z in
+    let same : drop plans_at X ≡ placed 18 P s.plans new = plans_left W ys long ∙ is in
+    let ly : length ys ≡ 1152 = ap length is ∙ placed_long 18 P s.plans new refl fits ∙ z ∙ omega arith in
     config_path s (s.next + 1)
     (atoms_stand W ys s.atoms ha long ly)
     (tabulate_append s.plans (plan_at W) (plan_at X) (new_plan (config_of W s) t n vs left (trimmed js))

@@ -7,7 +7,7 @@ use Prim.Native.Nat.{ℕ, ◌+◌, ◌<◌, ◌≤◌}
 use native.Mathlib.Omega.{arith}
 use lib.Dec.{ltb}
 use lib.ListN.{length, get_or}
-use borrow.Author.Tests.{ltb-true, ltb-false, lt-ltb, le-ltb}
+use borrow.Author.Tests.{ltb-true, ltb-false}
 use Rattle.std.specs.Prelude.{Option, None, Some, is_some}
 use Rattle.lists.specs.Lists.{member}
 use Rattle.lists.specs.Tables.{tabulate, index_of, PlaceOf}
@@ -15,6 +15,7 @@ use Rattle.lists.proofs.Tables.{pairs_get}
 use Rattle.lists.proofs.Tables.{equal_or_not, less_or_more, tabulate_at, tabulate_length, tabulate_map, index_tabulated_is, index_member}
 use Rattle.model.specs.declared.Atom.{Atom}
 use Rattle.state.specs.View.{atom_at, atom_ids_of, AtomsRise}
+use Rattle.state.proofs.Room.{found}
 
 module _ (W : List ℕ) (n : ℕ) where
   -- the ids by their places
@@ -27,8 +28,7 @@ module _ (W : List ℕ) (n : ℕ) where
 
   -- it is a member exactly if it was found
   pub found_is : (id : ℕ) (r : Option ℕ) → PlaceOf n id (atom_ids_of n W) r → is_some r ≡ member id (atom_ids_of n W)
-  found_is id None e = let z = ids_long in sym (le-ltb _ _ (omega arith)) ∙ index_member id (atom_ids_of n W)
-  found_is id (Some k) e = let z = ids_long in sym (lt-ltb _ _ (omega arith)) ∙ index_member id (atom_ids_of n W)
+  found_is id r e = sym (found n id (atom_ids_of n W) r e) ∙ ap (ltb (index_of id (atom_ids_of n W))) (sym ids_long) ∙ index_member id (atom_ids_of n W)
 
   module _ (rise : AtomsRise n W) where
     lower : (i j : ℕ) → i < j → j < n → get_or W i 0 < get_or W j 0

@@ -1,14 +1,15 @@
 -- Whether one more atom, one more plan may be made.
-use Rattle.std.specs.Prelude.{if◌then◌else◌}
+use Rattle.std.specs.Prelude.{if◌then◌else◌, Option, Some, None, is_some}
 use mathlib.Core.Path.{◌≡◌, refl, ap}
 use mathlib.Core.Bool.{Bool, true, false}
 use mathlib.Core.Logic.{◌≢◌}
 use mathlib.Core.List.{List}
 use Prim.Native.Nat.{ℕ, ◌<◌}
 use native.Mathlib.Omega.{arith}
-use lib.Dec.{eqb, leb}
+use lib.Dec.{eqb, leb, ltb}
 use lib.ListN.{length}
-use borrow.Author.Tests.{eqb-false, leb-false}
+use borrow.Author.Tests.{eqb-false, leb-false, lt-ltb, le-ltb}
+use Rattle.lists.specs.Tables.{PlaceOf, index_of}
 use Rattle.model.specs.declared.refusal.Refusal.{Refusal}
 use Rattle.model.specs.declared.refusal.Refusal.TheVariants.{NotWellFormed, Layout, Row, Valueless, TooMany, OutOfTurn, OutOfRange, IdsSpent, AtomsFull, PlansFull, CyclesSpent, NotAlive}
 use Rattle.model.specs.Refusals.{number_of}
@@ -22,6 +23,11 @@ atoms_of_bar words s = ap (atom_bar s.next) (atoms_counted words s)
 
 pub plans_of_bar : (words : List ℕ) (s : Scalars) → plan_bar (config_of words s).next (length (config_of words s).plans) ≡ plan_bar s.next s.plans
 plans_of_bar words s = ap (plan_bar s.next) (plans_counted words s)
+
+-- a place is found where the number stands
+pub found : (n x : ℕ) (l : List ℕ) (r : Option ℕ) → PlaceOf n x l r → ltb (index_of x l) n ≡ is_some r
+found n x l None e = le-ltb (index_of x l) n (omega arith)
+found n x l (Some k) f = lt-ltb (index_of x l) n (omega arith)
 
 -- no bar: there is room
 free : (most n m bar : ℕ) → 0 < bar → ◌≡◌ {A = ℕ} (if eqb n last_next then 8 else if leb most m then bar else 0) 0 → (n ≢ last_next) × (m < most)

@@ -12,9 +12,17 @@ use Rattle.lists.proofs.Tables.{get_within, tabulate_get, tabulate_same, tabulat
 use Rattle.lists.proofs.Counted.{trimmed_four}
 use Rattle.table.specs.Rows.{row, key, keys}
 use Rattle.table.proofs.Rows.{row_long}
+use Rattle.table.proofs.Parts.{with_part, rest_is, rest_same}
 use Rattle.model.specs.declared.Atom.{Atom}
 use Rattle.model.specs.Configuration.{Plan, no_value}
 use Rattle.state.specs.View.{atom_p, atom_a, atom_b, atom_cycle, plans_at, atom_at, plan_at, atoms_of, plans_of, atom_ids_of, plan_ids_of, AtomsRise, PlansRise, plan_word}
+
+-- a call is lent the words behind plans_at, and leaves ys there
+pub plans_lent : (W : List ℕ) → length W ≡ 2432 → take 1152 (drop plans_at W) ≡ drop plans_at W
+plans_lent W long = let e : length W - plans_at ≡ 1152 = omega arith in rw e at (rest_is plans_at W [])
+
+pub plans_left : (W ys : List ℕ) → length W ≡ 2432 → drop plans_at (with_part plans_at 1152 W ys) ≡ ys
+plans_left W ys long = let e : length W - plans_at ≡ 1152 = omega arith in rw e at (rest_same plans_at W ys (omega arith))
 
 -- the columns of a plan
 module _ (l : List ℕ) (k : ℕ) where

@@ -1,5 +1,5 @@
 -- What the words and the scalars of a configuration say.
-use Rattle.std.specs.Prelude.{◌≡◌, List, [], ◌∷◌, map, ℕ, ◌+◌, ◌*◌, ◌<◌, ◌≤◌, eqb, leb, length, take, drop, get_or, set, if◌then◌else◌}
+use Rattle.std.specs.Prelude.{List, [], ◌∷◌, map, ℕ, ◌+◌, ◌*◌, ◌<◌, ◌≤◌, eqb, leb, take, drop, get_or, set, if◌then◌else◌}
 use Rattle.lists.specs.Lists.{Pairs}
 use Rattle.lists.specs.Tables.{tabulate, trimmed}
 use Rattle.table.specs.Rows.{row}
@@ -98,25 +98,26 @@ PlansRise n words = Pairs (λ (p q : Plan). p.id < q.id) (plans_of n words)
 
 -- the words hold a sound configuration within its limits
 pub record SoundWords (words : List ℕ) (s : Scalars) : Type 0 where
-  pub long : length words ≡ 2432
   pub few_atoms : s.atoms ≤ 256
   pub few_plans : s.plans ≤ 64
   pub sound : Sound (graph (config_of words s))
 
 -- plan k is one of the live plans, whose ids rise
 pub record LivePlan (words : List ℕ) (s : Scalars) (k : ℕ) : Type 0 where
-  pub long : length words ≡ 2432
   pub few_atoms : s.atoms ≤ 256
   pub few_plans : s.plans ≤ 64
   pub there : k < s.plans
   pub rise : PlansRise s.plans words
 
--- the scalars after an atom, after a plan was made
+-- the scalars after one more was made, so that these live; after an atom, after a plan
+abbrev pub one_more : ℕ → ℕ → Scalars → Scalars
+one_more n m s = record s { next = s.next + 1; atoms = n; plans = m }
+
 abbrev pub atom_counted : Scalars → Scalars
-atom_counted s = record s { next = s.next + 1; atoms = s.atoms + 1 }
+atom_counted s = one_more (s.atoms + 1) s.plans s
 
 abbrev pub plan_counted : Scalars → Scalars
-plan_counted s = record s { next = s.next + 1; plans = s.plans + 1 }
+plan_counted s = one_more s.atoms (s.plans + 1) s
 
 -- the scalars with another phase, with another plan waiting
 abbrev pub phase_put : ℕ → Scalars → Scalars
@@ -140,7 +141,7 @@ unfoldable pub with_plan_word : List ℕ → ℕ → ℕ → ℕ → List ℕ
 with_plan_word words k column v = set words (plans_at + (k * 18 + column)) v
 
 -- the words of a plan by value
-abbrev pub plan_words : Declared.Plan → List ℕ
+unfoldable pub plan_words : Declared.Plan → List ℕ
 plan_words q =
     let js = q.justifications in
     let vs = q.values in

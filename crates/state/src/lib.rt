@@ -6,7 +6,7 @@ ghost use Rattle.lists.specs.Lists.{member};
 ghost use Rattle.lists.specs.Tables.{PlaceOf, trimmed};
 ghost use Rattle.model.specs.Refusals.{RefusedBy, number_of};
 ghost use Rattle.model.specs.Configuration.{empty, no_value, with_flag, without_flag, has_flag, equal_to, with_flags, step_removed, change_plan, add_atom, add_plan, add_subgoal};
-ghost use Rattle.state.specs.View.{atom_at, plan_at, config_of, atom_ids_of, plan_ids_of, AtomsRise, PlansRise, LivePlan, atom_counted, plan_counted, phase_put, cycle_put, waiting_put, counts_put, plan_by_value, plan_word, with_plan_word, plan_words, bar, atom_bar, plan_bar};
+ghost use Rattle.state.specs.View.{atom_at, plan_at, config_of, atom_ids_of, plan_ids_of, AtomsRise, PlansRise, LivePlan, atom_counted, plan_counted, phase_put, cycle_put, waiting_put, counts_put, one_more, plan_by_value, plan_word, with_plan_word, plan_words, bar, atom_bar, plan_bar};
 
 use model::{Atom, Refusal};
 
@@ -36,9 +36,13 @@ pub struct Scalars {
 }
 
 // 256 atoms by columns (ids, p, a, b, cycles), then 64 plans of 18 (id set rule left flags subgoal, four justifications, eight values).
+pub type Words = [u32; 2432];
+
+// The words go by reference and the scalars by value, side by side: the C interface lends them as two tables, and what a refused call
+// was given is still in its caller's hands.
 #[derive(Clone, Copy)]
 pub struct Config {
-    pub words: [u32; 2432],
+    pub words: Words,
     pub scalars: Scalars,
 }
 
@@ -106,25 +110,14 @@ pub fn has_flag(flags: u16, f: u32) -> bool
 }
 
 impl Scalars {
-    fn atom_made(self) -> Scalars
-        requires { (self.atoms < 256) × (self.next < 65536) }
-        ensures { result ≡ atom_counted self }
+    // One more was made, so that these live.
+    fn with_one_more(self, atoms: u32, plans: u32) -> Scalars
+        requires { self.next < 65536 }
+        ensures { result ≡ one_more atoms plans self }
     {
         Scalars {
             next: self.next + 1,
-            atoms: self.atoms + 1,
-            ..self
-        }
-    }
-
-    fn plan_made(self) -> Scalars
-        requires { (self.plans < 64) × (self.next < 65536) }
-        ensures { result ≡ plan_counted self }
-    {
-        Scalars {
-            next: self.next + 1,
-            plans: self.plans + 1,
-            ..self
+            ..self.with_counts(atoms, plans)
         }
     }
 
@@ -168,8 +161,8 @@ impl Scalars {
 
 // Atom k.
 #[tactic(auto, unfolding(crate::specs::View::atom_at))]
-pub fn atom_at(words: &[u32], k: usize) -> Atom
-    requires { (length words.now ≡ 2432) × (k < 256) }
+pub fn atom_at(words: &Words, k: usize) -> Atom
+    requires { k < 256 }
     ensures { result ≡ atom_at words.now k }
 {
     Atom {
@@ -182,8 +175,8 @@ pub fn atom_at(words: &[u32], k: usize) -> Atom
 }
 
 // Atom k is p(a, b).
-pub fn is_equal(words: &[u32], k: usize, p: u32, a: u32, b: u32) -> bool
-    requires { (length words.now ≡ 2432) × (k < 256) }
+pub fn is_equal(words: &Words, k: usize, p: u32, a: u32, b: u32) -> bool
+    requires { k < 256 }
     ensures { result ≡ equal_to p a b (atom_at words.now k) }
 {
     let x = atom_at(words, k);
@@ -191,8 +184,8 @@ pub fn is_equal(words: &[u32], k: usize, p: u32, a: u32, b: u32) -> bool
 }
 
 // One of eight atoms from k on is p(a, b): without a branch, so that they are compared side by side.
-fn any_equal(words: &[u32], k: usize, p: u32, a: u32, b: u32) -> bool
-    requires { (length words.now ≡ 2432) × (k + 8 ≤ 256) }
+fn any_equal(words: &Words, k: usize, p: u32, a: u32, b: u32) -> bool
+    requires { k + 8 ≤ 256 }
     ensures { result ≡ false → ((i : ℕ) → k ≤ i → i < k + 8 → equal_to p a b (atom_at words.now i) ≡ false) }
 {
     let mut any = false;
@@ -203,8 +196,8 @@ fn any_equal(words: &[u32], k: usize, p: u32, a: u32, b: u32) -> bool
 }
 
 // From `from` on, past eights of n atoms that have no p(a, b).
-pub fn pass_unequal(words: &[u32], p: u32, a: u32, b: u32, from: usize, n: usize) -> usize
-    requires { (length words.now ≡ 2432) × (from ≤ n) × (n ≤ 256) }
+pub fn pass_unequal(words: &Words, p: u32, a: u32, b: u32, from: usize, n: usize) -> usize
+    requires { (from ≤ n) × (n ≤ 256) }
     ensures { (from ≤ result) × (result ≤ n) × ((i : ℕ) → from ≤ i → i < result → equal_to p a b (atom_at words.now i) ≡ false) }
 {
     for k in (from..n).step_by(8) {
@@ -216,8 +209,9 @@ pub fn pass_unequal(words: &[u32], p: u32, a: u32, b: u32, from: usize, n: usize
 }
 
 // A word of plan k.
-fn plan_word(words: &[u32], k: usize, column: usize) -> u32
-    requires { (length words.now ≡ 2432) × (k < 64) × (column < 18) }
+#[tactic(auto, using(crate::proofs::View::plans_lent))]
+fn plan_word(words: &Words, k: usize, column: usize) -> u32
+    requires { (k < 64) × (column < 18) }
     ensures { result ≡ plan_word words.now k column }
 {
     table::read(&words[PLANS_AT..], 18, k, column)
@@ -225,48 +219,48 @@ fn plan_word(words: &[u32], k: usize, column: usize) -> u32
 
 // What stands in plan k, column by column.
 #[tactic(auto, unfolding(crate::specs::View::plan_at))]
-pub fn plan_id(words: &[u32], k: usize) -> u32
-    requires { (length words.now ≡ 2432) × (k < 64) }
+pub fn plan_id(words: &Words, k: usize) -> u32
+    requires { k < 64 }
     ensures { result ≡ (plan_at words.now k).id }
 {
     plan_word(words, k, 0)
 }
 
 #[tactic(auto, unfolding(crate::specs::View::plan_at))]
-pub fn plan_set(words: &[u32], k: usize) -> u32
-    requires { (length words.now ≡ 2432) × (k < 64) }
+pub fn plan_set(words: &Words, k: usize) -> u32
+    requires { k < 64 }
     ensures { result ≡ (plan_at words.now k).set }
 {
     plan_word(words, k, 1)
 }
 
 #[tactic(auto, unfolding(crate::specs::View::plan_at))]
-pub fn plan_rule(words: &[u32], k: usize) -> u32
-    requires { (length words.now ≡ 2432) × (k < 64) }
+pub fn plan_rule(words: &Words, k: usize) -> u32
+    requires { k < 64 }
     ensures { result ≡ (plan_at words.now k).rule }
 {
     plan_word(words, k, 2)
 }
 
 #[tactic(auto, unfolding(crate::specs::View::plan_at))]
-pub fn plan_left(words: &[u32], k: usize) -> u32
-    requires { (length words.now ≡ 2432) × (k < 64) }
+pub fn plan_left(words: &Words, k: usize) -> u32
+    requires { k < 64 }
     ensures { result ≡ (plan_at words.now k).left }
 {
     plan_word(words, k, 3)
 }
 
 #[tactic(auto, unfolding(crate::specs::View::plan_at))]
-pub fn plan_flags(words: &[u32], k: usize) -> u32
-    requires { (length words.now ≡ 2432) × (k < 64) }
+pub fn plan_flags(words: &Words, k: usize) -> u32
+    requires { k < 64 }
     ensures { result ≡ (plan_at words.now k).flags }
 {
     plan_word(words, k, 4)
 }
 
 #[tactic(auto, unfolding(crate::specs::View::plan_at))]
-pub fn plan_subgoal(words: &[u32], k: usize) -> u32
-    requires { (length words.now ≡ 2432) × (k < 64) }
+pub fn plan_subgoal(words: &Words, k: usize) -> u32
+    requires { k < 64 }
     ensures { result ≡ (plan_at words.now k).subgoal }
 {
     plan_word(words, k, 5)
@@ -274,8 +268,8 @@ pub fn plan_subgoal(words: &[u32], k: usize) -> u32
 
 // Justification j of plan k, 0 past the last.
 #[tactic(auto, using(crate::proofs::View::plan_justification_is))]
-pub fn plan_justification(words: &[u32], k: usize, j: usize) -> u32
-    requires { (length words.now ≡ 2432) × (k < 64) × (j < 4) }
+pub fn plan_justification(words: &Words, k: usize, j: usize) -> u32
+    requires { (k < 64) × (j < 4) }
     ensures { result ≡ get_or (plan_at words.now k).justifications j 0 }
 {
     plan_word(words, k, 6 + j)
@@ -283,30 +277,30 @@ pub fn plan_justification(words: &[u32], k: usize, j: usize) -> u32
 
 // The value of the variable in place i.
 #[tactic(auto, using(crate::proofs::View::plan_value_is))]
-pub fn plan_value(words: &[u32], k: usize, i: usize) -> u32
-    requires { (length words.now ≡ 2432) × (k < 64) × (i < 8) }
+pub fn plan_value(words: &Words, k: usize, i: usize) -> u32
+    requires { (k < 64) × (i < 8) }
     ensures { result ≡ get_or (plan_at words.now k).values i no_value }
 {
     plan_word(words, k, 10 + i)
 }
 
-fn plan_justifications(words: &[u32], k: usize) -> [u32; 4]
-    requires { (length words.now ≡ 2432) × (k < 64) }
+fn plan_justifications(words: &Words, k: usize) -> [u32; 4]
+    requires { k < 64 }
     ensures { trimmed result ≡ (plan_at words.now k).justifications }
 {
     std::array::from_fn(|j| plan_justification(words, k, j))
 }
 
-fn plan_values(words: &[u32], k: usize) -> [u32; 8]
-    requires { (length words.now ≡ 2432) × (k < 64) }
+fn plan_values(words: &Words, k: usize) -> [u32; 8]
+    requires { k < 64 }
     ensures { result ≡ (plan_at words.now k).values }
 {
     std::array::from_fn(|i| plan_value(words, k, i))
 }
 
 // Plan k, whole.
-pub fn plan_at(words: &[u32], k: usize) -> Plan
-    requires { (length words.now ≡ 2432) × (k < 64) }
+pub fn plan_at(words: &Words, k: usize) -> Plan
+    requires { k < 64 }
     ensures { plan_by_value result ≡ plan_at words.now k }
 {
     Plan {
@@ -322,8 +316,9 @@ pub fn plan_at(words: &[u32], k: usize) -> Plan
 }
 
 // Where the atom with this id stands, if it is alive.
-pub fn find_atom(words: &[u32], atoms: u32, id: u32) -> Option<usize>
-    requires { (length words.now ≡ 2432) × (atoms ≤ 256) × AtomsRise atoms words.now }
+#[tactic(auto, using(crate::proofs::View::atom_keys, crate::proofs::View::atom_keys_rise))]
+pub fn find_atom(words: &Words, atoms: u32, id: u32) -> Option<usize>
+    requires { (atoms ≤ 256) × AtomsRise atoms words.now }
     ensures { PlaceOf atoms id (atom_ids_of atoms words.now) result }
 {
     table::find(words, 1, atoms as usize, id)
@@ -331,8 +326,8 @@ pub fn find_atom(words: &[u32], atoms: u32, id: u32) -> Option<usize>
 
 // The same by a guess: the place that is guessed and the one behind it are looked at first. Any guess gives the same answer.
 #[tactic(auto, using(crate::proofs::Near::near_is))]
-pub fn find_near(words: &[u32], atoms: u32, id: u32, guess: usize) -> Option<usize>
-    requires { (length words.now ≡ 2432) × (atoms ≤ 256) × AtomsRise atoms words.now }
+pub fn find_near(words: &Words, atoms: u32, id: u32, guess: usize) -> Option<usize>
+    requires { (atoms ≤ 256) × AtomsRise atoms words.now }
     ensures { PlaceOf atoms id (atom_ids_of atoms words.now) result }
 {
     let n = atoms as usize;
@@ -354,8 +349,8 @@ pub fn find_near(words: &[u32], atoms: u32, id: u32, guess: usize) -> Option<usi
 
 // No atom has this id, by a guess of the atom before it.
 #[tactic(auto, using(crate::proofs::Near::found_is, crate::proofs::Near::gap_free))]
-pub fn is_free(words: &[u32], atoms: u32, id: u32, guess: usize) -> bool
-    requires { (length words.now ≡ 2432) × (atoms ≤ 256) × AtomsRise atoms words.now }
+pub fn is_free(words: &Words, atoms: u32, id: u32, guess: usize) -> bool
+    requires { (atoms ≤ 256) × AtomsRise atoms words.now }
     ensures { result ≡ not (member id (atom_ids_of atoms words.now)) }
 {
     let n = atoms as usize;
@@ -373,8 +368,8 @@ pub fn is_free(words: &[u32], atoms: u32, id: u32, guess: usize) -> bool
 }
 
 // A guess of the atom before an id that no atom has: any number, and it is right where an earlier guess stands near.
-pub fn place_near(words: &[u32], atoms: u32, id: u32, guess: usize) -> usize
-    requires { (length words.now ≡ 2432) × (atoms ≤ 256) }
+pub fn place_near(words: &Words, atoms: u32, id: u32, guess: usize) -> usize
+    requires { atoms ≤ 256 }
 {
     let n = atoms as usize;
     if n <= guess {
@@ -398,15 +393,16 @@ pub fn place_near(words: &[u32], atoms: u32, id: u32, guess: usize) -> usize
 }
 
 // By halves: the last of n atoms whose id is lower, as far as the ids rise.
-fn one_before(words: &[u32], n: usize, id: u32) -> usize
-    requires { (length words.now ≡ 2432) × (n ≤ 256) }
+fn one_before(words: &Words, n: usize, id: u32) -> usize
+    requires { n ≤ 256 }
 {
     words[..n].partition_point(|x| *x < id).saturating_sub(1)
 }
 
 // Where the plan with this id stands, if it is alive.
-pub fn find_plan(words: &[u32], plans: u32, id: u32) -> Option<usize>
-    requires { (length words.now ≡ 2432) × (plans ≤ 64) × PlansRise plans words.now }
+#[tactic(auto, using(crate::proofs::View::plans_lent, crate::proofs::View::plan_keys, crate::proofs::View::plan_keys_rise))]
+pub fn find_plan(words: &Words, plans: u32, id: u32) -> Option<usize>
+    requires { (plans ≤ 64) × PlansRise plans words.now }
     ensures { PlaceOf plans id (plan_ids_of plans words.now) result }
 {
     table::find(&words[PLANS_AT..], 18, plans as usize, id)
@@ -414,8 +410,8 @@ pub fn find_plan(words: &[u32], plans: u32, id: u32) -> Option<usize>
 
 // A word of plan k becomes v.
 #[tactic(auto, unfolding(crate::specs::View::with_plan_word))]
-pub fn put_plan_word(words: &mut [u32], k: usize, column: usize, v: u32)
-    requires { (length words.old ≡ 2432) × (k < 64) × (column < 18) }
+pub fn put_plan_word(words: &mut Words, k: usize, column: usize, v: u32)
+    requires { (k < 64) × (column < 18) }
     ensures { words.new ≡ with_plan_word words.old k column v }
 {
     words[PLANS_AT + (k * 18 + column)] = v;
@@ -459,8 +455,9 @@ pub fn room_for_plan(scalars: Scalars) -> Result<(), Refusal>
 }
 
 // An atom is made. There is room for it.
-pub fn append_atom(words: &mut [u32], scalars: Scalars, p: u32, a: u32, b: u32) -> Scalars
-    requires { (length words.old ≡ 2432) × (scalars.atoms < 256) × (scalars.next < 65536) }
+#[tactic(auto, using(crate::proofs::Made::atom_appended), unfolding(crate::proofs::Made::with_atom))]
+pub fn append_atom(words: &mut Words, scalars: Scalars, p: u32, a: u32, b: u32) -> Scalars
+    requires { (scalars.atoms < 256) × (scalars.next < 65536) }
     ensures counted { result ≡ atom_counted scalars }
     ensures made { config_of words.new result ≡ add_atom p a b (config_of words.old scalars) }
 {
@@ -470,10 +467,11 @@ pub fn append_atom(words: &mut [u32], scalars: Scalars, p: u32, a: u32, b: u32) 
     words[ATOM_A + n] = a;
     words[ATOM_B + n] = b;
     words[ATOM_CYCLE + n] = scalars.cycle;
-    scalars.atom_made()
+    scalars.with_one_more(scalars.atoms + 1, scalars.plans)
 }
 
 // The eighteen words of a plan.
+#[tactic(auto, unfolding(crate::specs::View::plan_words))]
 fn plan_words(q: Plan) -> [u32; 18]
     ensures { result ≡ plan_words q }
 {
@@ -486,8 +484,9 @@ fn plan_words(q: Plan) -> [u32; 18]
 }
 
 // A plan is made: it has the next id, no flags and no subgoal. Its justifications rise, with zeros behind. There is room for it.
+#[tactic(auto, using(crate::proofs::Made::plan_appended))]
 pub fn append_plan(
-    words: &mut [u32],
+    words: &mut Words,
     scalars: Scalars,
     set: u32,
     rule: u32,
@@ -495,7 +494,7 @@ pub fn append_plan(
     justifications: [u32; 4],
     values: [u32; 8],
 ) -> Scalars
-    requires { (length words.old ≡ 2432) × (scalars.atoms ≤ 256) × (scalars.plans < 64) × (scalars.next < 65536) }
+    requires { (scalars.atoms ≤ 256) × (scalars.plans < 64) × (scalars.next < 65536) }
     ensures counted { result ≡ plan_counted scalars }
     ensures made { config_of words.new result ≡ add_plan set rule values left (trimmed justifications) (config_of words.old scalars) }
 {
@@ -512,11 +511,12 @@ pub fn append_plan(
     };
     let numbers = plan_words(q);
     table::write(&mut words[PLANS_AT..], 18, n, &numbers);
-    scalars.plan_made()
+    scalars.with_one_more(scalars.atoms, scalars.plans + 1)
 }
 
 // Flag f of plan k is set, is cleared.
-pub fn set_flag(words: &mut [u32], scalars: Scalars, k: usize, f: u32)
+#[tactic(auto, using(crate::proofs::Changed::flags_changed))]
+pub fn set_flag(words: &mut Words, scalars: Scalars, k: usize, f: u32)
     requires { LivePlan words.old scalars k × ((plan_at words.old k).flags ≤ 65535) × (1 ≤ f) × (f ≤ 16) }
     ensures { config_of words.new scalars ≡ change_plan (plan_at words.old k).id (with_flags (with_flag f)) (config_of words.old scalars) }
 {
@@ -524,7 +524,8 @@ pub fn set_flag(words: &mut [u32], scalars: Scalars, k: usize, f: u32)
     put_plan_word(words, k, 4, with_flag(flags, f) as u32);
 }
 
-pub fn clear_flag(words: &mut [u32], scalars: Scalars, k: usize, f: u32)
+#[tactic(auto, using(crate::proofs::Changed::flags_changed))]
+pub fn clear_flag(words: &mut Words, scalars: Scalars, k: usize, f: u32)
     requires { LivePlan words.old scalars k × ((plan_at words.old k).flags ≤ 65535) × (1 ≤ f) × (f ≤ 16) }
     ensures { config_of words.new scalars ≡ change_plan (plan_at words.old k).id (with_flags (without_flag f)) (config_of words.old scalars) }
 {
@@ -539,7 +540,8 @@ pub fn one_less(x: u32) -> u32
 }
 
 // Plan k loses its first step.
-pub fn remove_step(words: &mut [u32], scalars: Scalars, k: usize)
+#[tactic(auto, using(crate::proofs::Changed::left_changed))]
+pub fn remove_step(words: &mut Words, scalars: Scalars, k: usize)
     requires { LivePlan words.old scalars k }
     ensures { config_of words.new scalars ≡ change_plan (plan_at words.old k).id step_removed (config_of words.old scalars) }
 {
@@ -548,7 +550,8 @@ pub fn remove_step(words: &mut [u32], scalars: Scalars, k: usize)
 }
 
 // An atom is made and linked as the subgoal of plan k. There is room for it.
-pub fn add_subgoal(words: &mut [u32], scalars: Scalars, k: usize, p: u32, a: u32, b: u32) -> Scalars
+#[tactic(auto, using(crate::proofs::Changed::subgoal_linked))]
+pub fn add_subgoal(words: &mut Words, scalars: Scalars, k: usize, p: u32, a: u32, b: u32) -> Scalars
     requires { LivePlan words.old scalars k × (scalars.atoms < 256) × (scalars.next < 65536) }
     ensures counted { result ≡ atom_counted scalars }
     ensures made { config_of words.new result ≡ add_subgoal (plan_at words.old k).id p a b (config_of words.old scalars) }

@@ -1,24 +1,21 @@
 -- What a step leaves, against the answer of the model's work.
+use Rattle.std.specs.Prelude.{Err}
 use mathlib.Core.Path.{◌≡◌, sym, ap, ◌∙◌}
 use mathlib.Core.List.{List}
 use Prim.Native.Nat.{ℕ, ◌-◌}
-use native.Mathlib.Omega.{arith}
+use Rattle.model.specs.declared.refusal.Refusal.{Refusal}
+use Rattle.model.specs.Refusals.{number_of}
 use Rattle.model.specs.Configuration.{Config}
 use Rattle.model.specs.Log as Log
-use Rattle.model.specs.Log.{Log, Outcome, refused, accepted, answer_of, Answer, called}
+use Rattle.model.specs.Log.{Log, Outcome, refused, accepted, answer_of, Answer}
 use Rattle.state.specs.declared.Scalars.{Scalars}
 use Rattle.state.specs.View.{config_of}
-use Rattle.stepping.specs.declared.Progress.{Progress}
-use Rattle.stepping.specs.declared.Did.TheVariants as Did
 use Rattle.stepping.specs.Steps.{answered_by}
 
 -- refused, and nothing was written
-pub answers_refused : (words : List ℕ) (s : Scalars) (n : ℕ) (r : Progress) (o : Outcome) → r ≡ record { scalars = s; gone = 0; number = n; did = Did.Refused } → o ≡ refused n →
-    answered_by s.next words r ≡ answer_of (config_of words s) o
+pub answers_refused : (words : List ℕ) (s : Scalars) (e : Refusal) (o : Outcome) → o ≡ refused (number_of e) → answered_by s words (Err e) ≡ answer_of (config_of words s) o
 unfolding answer_of
-answers_refused words s n r o e f =
-    let z : s.next - s.next ≡ 0 = omega arith in
-    ap (answered_by s.next words) e ∙ (λ i. record { number = n; did = called; config = config_of words s; made = z i; gone = 0 }) ∙ ap (answer_of (config_of words s)) (sym f)
+answers_refused words s e o f = ap (answer_of (config_of words s)) (sym f)
 
 -- done
 pub answers : (c : Config) (words : List ℕ) (s : Scalars) (gone : ℕ) (d : Log.Did) (o : Outcome) (L : Log) → o ≡ accepted L → d ≡ L.did → config_of words s ≡ L.config → gone ≡ L.gone →

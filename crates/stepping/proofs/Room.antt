@@ -10,17 +10,10 @@ use native.Mathlib.Omega.{arith}
 use Rattle.model.specs.Configuration.{most_atoms, most_plans, last_next}
 use Rattle.model.specs.Log.{Log, Outcome, refused, unless}
 use Rattle.model.specs.Calls.{room_for_atom, room_for_plan}
-use Rattle.std.specs.Prelude.{Option, Some, None, is_some}
-use mathlib.Core.List.{List}
-use borrow.Author.Tests.{lt-ltb, le-ltb}
-use lib.Dec.{ltb}
-use Rattle.lists.specs.Tables.{PlaceOf, index_of}
+use Rattle.model.specs.declared.refusal.Refusal.{Refusal}
+use Rattle.model.specs.Refusals.{number_of}
 use Rattle.state.specs.View.{atom_bar, plan_bar}
-
--- a place is found where the number stands
-pub found : (n x : ℕ) (l : List ℕ) (r : Option ℕ) → PlaceOf n x l r → ltb (index_of x l) n ≡ is_some r
-found n x l None e = le-ltb (index_of x l) n (omega arith)
-found n x l (Some k) f = lt-ltb (index_of x l) n (omega arith)
+use Rattle.state.proofs.Room.{numbered}
 
 module _ (o : Outcome) (bar : ℕ) where
   barred_by : (x y : Bool) (n : ℕ) → (if x then 8 else if y then bar else 0) ≡ n → n ≢ 0 → unless x 8 (unless y bar o) ≡ refused n
@@ -36,17 +29,17 @@ module _ (o : Outcome) (bar : ℕ) where
   free_of false false b e = refl
 
 module _ (L : Log) (o : Outcome) where
-  pub atom_barred : (n : ℕ) → atom_bar L.config.next (length L.config.atoms) ≡ n → n ≢ 0 → room_for_atom L o ≡ refused n
+  pub atom_barred : (e : Refusal) → atom_bar L.config.next (length L.config.atoms) ≡ number_of e → room_for_atom L o ≡ refused (number_of e)
   unfolding room_for_atom
-  atom_barred n e h = barred_by o 9 (eqb L.config.next last_next) (leb most_atoms (length L.config.atoms)) n e h
+  atom_barred e b = barred_by o 9 (eqb L.config.next last_next) (leb most_atoms (length L.config.atoms)) _ b (numbered e)
 
   pub atom_free : atom_bar L.config.next (length L.config.atoms) ≡ 0 → room_for_atom L o ≡ o
   unfolding room_for_atom
   atom_free e = free_of o 9 (eqb L.config.next last_next) (leb most_atoms (length L.config.atoms)) (omega arith) e
 
-  pub plan_barred : (n : ℕ) → plan_bar L.config.next (length L.config.plans) ≡ n → n ≢ 0 → room_for_plan L o ≡ refused n
+  pub plan_barred : (e : Refusal) → plan_bar L.config.next (length L.config.plans) ≡ number_of e → room_for_plan L o ≡ refused (number_of e)
   unfolding room_for_plan
-  plan_barred n e h = barred_by o 10 (eqb L.config.next last_next) (leb most_plans (length L.config.plans)) n e h
+  plan_barred e b = barred_by o 10 (eqb L.config.next last_next) (leb most_plans (length L.config.plans)) _ b (numbered e)
 
   pub plan_free : plan_bar L.config.next (length L.config.plans) ≡ 0 → room_for_plan L o ≡ o
   unfolding room_for_plan

@@ -33,7 +33,7 @@ module _ (program words : List ℕ) (s : Scalars) (w : WellWords program words s
 
   formed : (well_formed (rows_of program) ≡ true) × (config_formed (rows_of program) C ≡ true)
   unfolding given_well
-  formed = (and-eq-true_iff (well_formed (rows_of program)) (config_formed (rows_of program) C)).0 w.well
+  formed = (and-eq-true_iff (well_formed (rows_of program)) (config_formed (rows_of program) C)).0 w
 
   pub lawful_rows : Lawful (rows_of program)
   lawful_rows = lawful (rows_of program) formed.0
@@ -46,7 +46,6 @@ module _ (program words : List ℕ) (s : Scalars) (w : WellWords program words s
 
   pub whole : SoundWords words s
   whole = record {
-    long = w.long;
     few_atoms = let h = atoms_counted words s in omega (arith, shaped.few_atoms);
     few_plans = let h = plans_counted words s in omega (arith, shaped.few_plans);
     sound = sound_graph;

@@ -5,7 +5,7 @@ ghost use Rattle.std.specs.Prelude.{◌≡◌, ◌≤◌};
 ghost use Rattle.model.specs.Calls.{set_stepped, set_failed, remove_step};
 ghost use Rattle.state.specs.View.{plan_at, config_of, LivePlan};
 
-use state::Scalars;
+use state::{Scalars, Words};
 
 // "the plan or last atom made, or none"
 #[derive(Clone, Copy)]
@@ -24,10 +24,9 @@ pub enum How {
     Failed,
 }
 
-// "What a step did is one of: fired .., moved on, executed .., waits .., cycle ended". A refused step did nothing.
+// "What a step did is one of: fired .., moved on, executed .., waits .., cycle ended".
 #[derive(Clone, Copy)]
 pub enum Did {
-    Refused,
     Fired { set: u32, rule: u32, made: Made },
     MovedOn,
     Executed { plan: u32, how: How },
@@ -35,34 +34,24 @@ pub enum Did {
     CycleEnded,
 }
 
-// What a step leaves beside the words: the scalars, how many instances went, the refusal's number or 0, what it did.
+// What a step leaves beside the words: the scalars, how many instances went, what it did.
 #[derive(Clone, Copy)]
 pub struct Progress {
     pub scalars: Scalars,
     pub gone: u32,
-    pub number: u32,
     pub did: Did,
 }
 
-// "3 stepped, 4 failed"
-const STEPPED: u32 = 3;
+// "2 scheduled, 3 stepped, 4 failed"
+pub const SCHEDULED: u32 = 2;
 
-const FAILED: u32 = 4;
+pub const STEPPED: u32 = 3;
 
-// A step that meets a limit before it has written anything.
-pub fn barred(scalars: Scalars, number: u32) -> Progress
-    ensures { result ≡ record { scalars = scalars; gone = 0; number = number; did = Did.Refused } }
-{
-    Progress {
-        scalars,
-        gone: 0,
-        number,
-        did: Did::Refused,
-    }
-}
+pub const FAILED: u32 = 4;
 
 // "the step is removed"; stepped is set.
-pub fn succeed(words: &mut [u32], scalars: Scalars, k: usize)
+#[tactic(auto, using(crate::proofs::Changed::ready_removed, crate::proofs::Changed::succeeded))]
+pub fn succeed(words: &mut Words, scalars: Scalars, k: usize)
     requires { LivePlan words.old scalars k × ((plan_at words.old k).flags ≤ 65535) }
     ensures { config_of words.new scalars ≡ set_stepped (plan_at words.old k).id (remove_step (plan_at words.old k).id (config_of words.old scalars)) }
 {
@@ -71,7 +60,8 @@ pub fn succeed(words: &mut [u32], scalars: Scalars, k: usize)
 }
 
 // "failed is set"; stepped is set.
-pub fn fail(words: &mut [u32], scalars: Scalars, k: usize)
+#[tactic(auto, using(crate::proofs::Changed::ready_failed, crate::proofs::Changed::failed))]
+pub fn fail(words: &mut Words, scalars: Scalars, k: usize)
     requires { LivePlan words.old scalars k × ((plan_at words.old k).flags ≤ 65535) }
     ensures { config_of words.new scalars ≡ set_stepped (plan_at words.old k).id (set_failed (plan_at words.old k).id (config_of words.old scalars)) }
 {

@@ -7,6 +7,3 @@ use Rattle.deletion.proofs.pass_left.Given as goal
 
 abbrev pub invariant-loop-k : goal.invariant-loop-k
 invariant-loop-k l = ((l.end - l.k) % 8 ≡ 0) × ((i : ℕ) → l.from ≤ i → i < l.k → get_or l.left i false ≡ true)
-
-abbrev pub decreases-loop-k : goal.decreases-loop-k
-decreases-loop-k l = l.end - l.k

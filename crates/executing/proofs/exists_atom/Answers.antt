@@ -1,30 +1,21 @@
-use mathlib.Core.Path.{refl, sym, ◌∙◌}
+-- The places that are tested are the atoms.
+use mathlib.Core.Path.{refl, ◌∙◌}
 use native.Mathlib.Omega.{arith}
+use borrow.Author.Rules.{rules}
+use borrow.Author.Tests.{tests}
+use Rattle.std.proofs.lemmas.Iterator.{YieldsList-from_range}
+use Rattle.std.proofs.lemmas.Iterator.Search.{any_from_yields_List}
 use Rattle.model.specs.Configuration.{equal_to}
 use Rattle.model.specs.Calls.{exists_atom}
 use Rattle.state.specs.View.{atom_at}
-use Rattle.executing.proofs.Places.{some_skip, some_hit, some_end}
+use Rattle.executing.proofs.Places.{some_from}
 use Rattle.executing.proofs.exists_atom.Goals as goal
-
-pub loop-k-init : goal.loop-k-init
-loop-k-init c = refl
-
-pub returns-then-is_equal : goal.returns-then-is_equal
-unfolding exists_atom
-returns-then-is_equal c =
-    let a = c.args in
-    let l = c.loop-k in
-    sym (l.invariant ∙ some_hit (equal_to a.p a.a a.b) a.scalars.atoms (atom_at a.words.now) l.k (omega arith) (sym c.is_equal.ensures ∙ c.if-is_equal.true))
-
-pub loop-k-preserved : goal.loop-k-preserved
-loop-k-preserved c =
-    let a = c.args in
-    let l = c.loop-k in
-    l.invariant ∙ some_skip (equal_to a.p a.a a.b) a.scalars.atoms (atom_at a.words.now) l.k (omega arith) (sym c.is_equal.ensures ∙ c.if-is_equal.false)
 
 pub returns : goal.returns
 unfolding exists_atom
 returns c =
     let a = c.args in
-    let l = c.loop-k in
-    sym (l.invariant ∙ some_end (equal_to a.p a.a a.b) a.scalars.atoms (atom_at a.words.now) l.k (omega arith))
+    let n = a.scalars.atoms in
+    any_from_yields_List (λ k. equal_to a.p a.a a.b (atom_at a.words.now k)) _ _ _ c.any.ensures.ran
+    (YieldsList-from_range 0 n n refl (omega arith)) (λ x b q k. search (rules, tests))
+    ∙ some_from (equal_to a.p a.a a.b) n (atom_at a.words.now) n 0 (omega arith)

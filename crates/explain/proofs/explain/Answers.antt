@@ -1,3 +1,4 @@
+use borrow.Author.Rules.{rules}
 use mathlib.Core.Path.{refl, sym, ap, ◌∙◌, subst}
 use Rattle.model.specs.declared.Scan.{Scan}
 use Rattle.model.specs.Load.{take_row}
@@ -34,7 +35,7 @@ returns-in_default c =
 pub take_row-requires : goal.take_row-requires
 take_row-requires c =
     let turn = c.loop-at in
-    (turn.invariant.0.small, turn.invariant.1, (row_range _ (whole_line _ c.in-Some.ensures)).p)
+    (turn.invariant.0.small, (row_range _ (whole_line _ c.in-Some.ensures)).p)
 
 pub of_row-requires-clause-in_set_zero : goal.of_row-requires-clause-in_set_zero
 of_row-requires-clause-in_set_zero c =
@@ -58,7 +59,7 @@ pub loop-at-preserved : goal.loop-at-preserved
 loop-at-preserved c =
     let turn = c.loop-at in
     let read = whole_line _ c.in-Some.ensures in
-    (row_taken turn.invariant.0 c.loop-at-test.true c.newline-end.ensures c.if-text-end.false read c.in-Ok.scan c.take_row.new.ceilings c.in-Ok.ensures, c.take_row.auto.ceilings ∙ turn.invariant.1)
+    (row_taken turn.invariant.0 c.loop-at-test.true c.newline-end.ensures c.if-text-end.false read c.in-Ok.scan c.take_row.new.ceilings c.in-Ok.ensures, search rules)
 
 pub returns-then-lacking : goal.returns-then-lacking
 returns-then-lacking c =

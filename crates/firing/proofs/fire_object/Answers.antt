@@ -1,30 +1,16 @@
-use mathlib.Core.Path.{refl, sym, ◌∙◌}
-use native.Mathlib.Omega.{arith}
-use borrow.Author.Rules.{rules}
-use Rattle.state.proofs.Room.{plan_bar_free, numbered}
+use Rattle.std.proofs.lemmas.Result.{err_from_is_err_and}
 use Rattle.firing.proofs.Raised.{raised_barred, ids_raised, raised_done}
 use Rattle.firing.proofs.fire_object.Goals as goal
 
-pub returns-in-Err : goal.returns-in-Err
-returns-in-Err c =
-    let a = c.args in record {
-      result_after = raised_barred a.words.now a.scalars a.x c.number.result (c.in-Err.ensures ∙ sym c.number.ensures) (λ z. numbered c.in-Err.refusal (sym c.number.ensures ∙ z)) _ c.barred.ensures;
-      untouched = λ z. refl;
-    }
-
-pub append_plan-made-requires : goal.append_plan-made-requires
-append_plan-made-requires c =
+pub returns-in_err-room_for_plan-clause-result_after : goal.returns-in_err-room_for_plan-clause-result_after
+returns-in_err-room_for_plan-clause-result_after c =
     let a = c.args in
-    let w = c.requires in
-    let h = plan_bar_free a.scalars.next a.scalars.plans c.in_default.ensures in
-    (w.whole.long, w.whole.few_atoms, h.1, omega (arith, h.0, w.next_fits))
+    let p = err_from_is_err_and c.from_residual.result c.from_residual.ensures.1 in
+    rw (p.1, p.2) (raised_barred a.words.now a.scalars a.x _ c.in_err-room_for_plan.ensures)
 
-pub returns : goal.returns
-returns c =
+pub returns-clause-result_after : goal.returns-clause-result_after
+returns-clause-result_after c =
     let a = c.args in
-    let w = c.requires in
-    let l = c.rising_set-l in
-    let p = c.append_plan-made in record {
-      result_after = raised_done a.words.now a.scalars a.x c.in_default.ensures p.new.words p.result _ (ids_raised a.words.now a.scalars a.x w l.result l.ensures.padded l.ensures.is) p.ensures.made;
-      untouched = λ z. absurd (z refl);
-    }
+    let l = c.rising_set-reasons in
+    let p = c.append_plan-made in
+    raised_done a.words.now a.scalars a.x c.in_ok-room_for_plan.ensures p.new.words p.result _ (ids_raised a.words.now a.scalars a.x c.requires l.result l.ensures.padded l.ensures.is) p.ensures.made

@@ -1,45 +1,21 @@
--- The work on what is well formed, and what it leaves settled in the lent slices.
-use mathlib.Core.Path.{sym, ap, ◌∙◌, subst}
-use Rattle.model.specs.Claims.{to_answer, reply}
-use Rattle.model.specs.Log.{called}
-use Rattle.state.specs.declared.Scalars.{Scalars}
-use Rattle.state.specs.View.{config_of}
-use Rattle.in_place.specs.declared.Change.{Change}
-use Rattle.in_place.specs.Given.{given_rows, Admitted}
-use Rattle.host.proofs.Settled.{long, trusted_call_after}
-use borrow.Author.Rules.{rules}
+-- What the call tells is settled in the lent slices.
+use Rattle.std.proofs.Common.{◌≡◌, rules, length}
+use Rattle.model.specs.Claims.{to_answer}
+use Rattle.in_place.specs.Given.{given_rows}
+use Rattle.host.proofs.Settled.{call_after}
 use Rattle.host.proofs.jq_trusted_answer.Goals as goal
-
-pub scalars_of-requires : goal.scalars_of-requires
-scalars_of-requires c =
-    let a = c.args in
-    (long a.words.now a.scalars.now a.report.now c.requires.lengths).1
-
-pub answer_admitted-c-requires : goal.answer_admitted-c-requires
-answer_admitted-c-requires c =
-    let a = c.args in
-    subst (Admitted a.program.now a.words.now) (sym c.scalars_of.ensures) c.requires.well
-
-pub settle_change-requires : goal.settle_change-requires
-settle_change-requires c =
-    let a = c.args in
-    let h = long a.words.now a.scalars.now a.report.now c.requires.lengths in
-    (h.1, h.2)
 
 pub returns : goal.returns
 returns c =
     let a = c.args in
-    let r = c.answer_admitted-c in
-    let e = c.scalars_of.ensures in
-    let t = c.settle_change.ensures in
-    let k = to_answer (given_rows a.program.now) a.n in
-    let all =
-    trusted_call_after a.words.now a.scalars.now a.report.now r.new.words _ _
-    r.result.scalars r.result.number r.result.made r.result.gone called c.requires.lengths r.auto.words
-    t.scalars t.report
-    (λ n. (r.ensures.untouched n).0) (λ n. ap (λ (x : Change). x.scalars) (r.ensures.untouched n).1 ∙ e)
-    a.program.now r.ensures.stays _ t.number k (r.ensures.result_after ∙ ap (λ (x : Scalars). reply k (config_of a.words.now x)) e) in record {
+    let told = c.answer_admitted-told in
+    let s = c.settle in
+    let same : c.unwrap-words.result.now ≡ a.words.now = search rules in
+    let long : length told.new.words ≡ 2432 = search rules in
+    let all = call_after a.program.now a.words.now told.new.words a.scalars.now s.new.scalars a.report.now s.new.report told.new.scalars s.result
+    c.requires _ _ same c.scalars_of-left.ensures long told.ensures.stays (to_answer (given_rows a.program.now) a.n)
+    told.result c.map.result told.ensures.result_after told.ensures.untouched c.map.ensures.cases s.ensures in record {
       report_after = all.0;
-      untouched = all.1.0;
-      stays = all.1.1;
+      untouched = all.1;
+      stays = all.2;
     }

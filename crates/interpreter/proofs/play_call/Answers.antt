@@ -4,7 +4,6 @@ use Prim.Native.Nat.{◌+◌}
 use native.Mathlib.Omega.{arith}
 use Rattle.table.proofs.Parts.{rest_is}
 use Rattle.interpreter.proofs.Words.{sized, readings_fit, with_loaded, with_own}
-use borrow.Author.Rules.{rules}
 use Rattle.interpreter.proofs.play_call.Goals as goal
 
 pub work_call-requires : goal.work_call-requires
@@ -39,12 +38,6 @@ bounds-words-1 c = omega (arith, (sized _ c.requires).fits)
 
 pub bounds-words-2 : goal.bounds-words-2
 bounds-words-2 c = omega (arith, (sized _ c.requires).fits)
-
-pub overflow_add-end : goal.overflow_add-end
-overflow_add-end c = omega (arith, (sized _ c.requires).fits)
-
-pub offset_bounds-words-end : goal.offset_bounds-words-end
-offset_bounds-words-end c = omega (arith, (sized _ c.requires).fits)
 
 pub slice_bounds-rest-count : goal.slice_bounds-rest-count
 slice_bounds-rest-count c = omega (arith, (sized _ c.requires).fits)

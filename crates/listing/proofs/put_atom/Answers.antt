@@ -1,17 +1,11 @@
 -- An atom's line has its numbers.
-use mathlib.Core.Path.{subst}
-use native.Mathlib.Omega.{arith}
+use mathlib.Core.Path.{ap, ◌∙◌}
+use mathlib.Core.List.{◌++◌}
 use Rattle.model.specs.declared.Atom.{Atom}
 use Rattle.model.specs.Run.{atom_line}
-use Rattle.listing.specs.Listing.{Puts, line}
+use Rattle.listing.specs.Listing.{line}
 use Rattle.listing.proofs.put_atom.Goals as goal
 
-pub put_line-requires : goal.put_line-requires
-put_line-requires c = omega arith
-
-pub returns : goal.returns
+pub returns-clause-puts : goal.returns-clause-puts
 unfolding atom_line
-returns c =
-    let a = c.args in
-    let p = c.put_line in
-    record { puts = subst (λ (x : Atom). Puts (line (atom_line x)) a.out.now a.at p.new.out p.result) c.atom_at-x.ensures p.ensures.puts; short = p.ensures.short }
+returns-clause-puts c = c.put_line.ensures.puts ∙ ap (λ (x : Atom). c.args.out.now.items ++ line (atom_line x)) c.atom_at-x.ensures

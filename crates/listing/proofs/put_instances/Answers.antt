@@ -1,50 +1,42 @@
-use mathlib.Core.Path.{sym, ◌∙◌}
+use mathlib.Core.Path.{◌≡◌, sym, ◌∙◌}
+use Prim.Native.Nat.{◌+◌, ◌-◌}
 use native.Mathlib.Omega.{arith}
-use Rattle.listing.proofs.Written.{puts_long}
 use Rattle.listing.proofs.Listed.{listed_none, listed_atom, listed_plan, listed_end}
 use Rattle.listing.proofs.Next.{next_atom, next_plan}
+use Rattle.listing.proofs.put_instances.Goals.{then-is_atom_next, else-is_atom_next}
 use Rattle.listing.proofs.put_instances.Goals as goal
 
-pub loop-i-init : goal.loop-i-init
-loop-i-init c = let p = c.requires in (listed_none _ _ _ _, p.0, p.1, omega arith)
+pub loop-k-init : goal.loop-k-init
+loop-k-init c = (listed_none _ _ _, omega arith)
 
-pub is_atom_next-requires : goal.is_atom_next-requires
-is_atom_next-requires c = let o = c.loop-i.invariant.1 in (o.long, o.few_atoms, o.few_plans)
+pub put_atom-requires : goal.put_atom-requires
+put_atom-requires c =
+    let v = c.loop-k in
+    let n = next_atom _ _ v.i (v.k - v.i) (sym c.is_atom_next.ensures ∙ c.if-is_atom_next.true) in
+    let o = c.requires.0 in
+    (omega (arith, o.few_atoms), omega (arith, v.invariant.0.short, o.few_atoms, o.few_plans))
 
-pub put_atom-next-requires : goal.put_atom-next-requires
-put_atom-next-requires c =
-    let i = c.loop-i.invariant in
-    let w = i.0 in
-    let o = i.1 in
-    let n = next_atom _ _ c.loop-i.i c.loop-i.j (sym c.is_atom_next.ensures ∙ c.if-is_atom_next.true) in
-    (o.long, omega arith, omega (arith, puts_long _ _ w.puts))
+pub put_plan-requires : goal.put_plan-requires
+put_plan-requires c =
+    let v = c.loop-k in
+    let w = v.invariant.0 in
+    let n = next_plan _ _ v.i (v.k - v.i) (sym c.is_atom_next.ensures ∙ c.if-is_atom_next.false) (omega (arith, v.invariant.1)) w.some_plans w.some_atoms in
+    let o = c.requires.0 in
+    (omega (arith, o.few_plans), omega (arith, w.short, o.few_atoms, o.few_plans))
 
-pub loop-i-preserved-then-is_atom_next : goal.loop-i-preserved-then-is_atom_next
-loop-i-preserved-then-is_atom_next c =
-    let i = c.loop-i.invariant in
-    let p = c.put_atom-next in
-    (listed_atom _ _ _ _ _ _ _ _ i.0 i.1 p.new.out p.result (sym c.is_atom_next.ensures ∙ c.if-is_atom_next.true) p.ensures.puts p.ensures.short, i.1, i.2, i.3)
-
-pub put_plan-next-requires : goal.put_plan-next-requires
-put_plan-next-requires c =
-    let i = c.loop-i.invariant in
-    let w = i.0 in
-    let o = i.1 in
-    let n = next_plan _ _ c.loop-i.i c.loop-i.j (sym c.is_atom_next.ensures ∙ c.if-is_atom_next.false) (omega arith) w.some_plans w.some_atoms in
-    (o.long, omega arith, omega (arith, puts_long _ _ w.puts))
-
-pub loop-i-preserved : goal.loop-i-preserved
-loop-i-preserved c =
-    let i = c.loop-i.invariant in
-    let p = c.put_plan-next in
-    (listed_plan _ _ _ _ _ _ _ _ i.0 i.1 p.new.out p.result (omega arith) (sym c.is_atom_next.ensures ∙ c.if-is_atom_next.false) p.ensures.puts p.ensures.short, i.1, i.2, i.3)
-
-pub shape_of-out : goal.shape_of-out
-shape_of-out c = puts_long _ _ c.loop-i.invariant.0.puts
+pub loop-k-preserved : goal.loop-k-preserved
+loop-k-preserved c =
+    let v = c.loop-k in
+    elim c.if-is_atom_next.branch [
+      | then-is_atom_next w ↦
+          let e : v.k + 1 - (v.i + 1) ≡ v.k - v.i = omega arith in
+          (rw (w.i-is, w.out-is, e) (listed_atom _ _ _ _ _ _ v.invariant.0 c.requires.0 _ (sym c.is_atom_next.ensures ∙ w.if-is_atom_next.true) w.put_atom.ensures.puts w.put_atom.ensures.short), rw w.i-is (omega (arith, v.invariant.1)))
+      | else-is_atom_next w ↦
+          let e : v.k + 1 - v.i ≡ v.k - v.i + 1 = omega (arith, v.invariant.1) in
+          (rw (w.i-is, w.out-is, e) (listed_plan _ _ _ _ _ _ v.invariant.0 c.requires.0 _ (omega (arith, v.invariant.1, c.loop-k-test.true)) (sym c.is_atom_next.ensures ∙ w.if-is_atom_next.false) w.put_plan.ensures.puts w.put_plan.ensures.short), rw w.i-is (omega (arith, v.invariant.1)))
+    ]
 
 pub returns : goal.returns
 returns c =
-    let i = c.loop-i.invariant in
-    let o = i.1 in
-    let w = i.0 in
-    record { puts = listed_end _ _ _ _ _ _ _ _ w (omega arith); short = omega arith }
+    let v = c.loop-k in
+    listed_end _ _ _ _ _ _ v.invariant.0 (omega (arith, v.invariant.1))

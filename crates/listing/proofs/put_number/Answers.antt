@@ -1,18 +1,23 @@
--- A number's digits, then one byte.
+-- Five digits at most.
+use mathlib.Core.Path.{ap, ◌∙◌}
+use mathlib.Core.List.{List}
+use Prim.Native.Nat.{ℕ}
 use native.Mathlib.Omega.{arith}
-use Rattle.listing.proofs.Written.{puts_then}
+use lib.ListN.{length, length-append}
+use Rattle.model.specs.Render.{decimal}
 use Rattle.listing.proofs.Decimals.{decimal_short}
 use Rattle.listing.proofs.put_number.Goals as goal
 
-pub put_byte-requires : goal.put_byte-requires
-put_byte-requires c =
-    let k = c.put_decimal-next.auto.out in
-    omega (arith, decimal_short 5 c.args.n, c.put_decimal-next.ensures.behind)
-
-pub returns : goal.returns
-returns c =
+pub push-requires : goal.push-requires
+push-requires c =
     let a = c.args in
-    record {
-      puts = puts_then a.out.now a.at c.put_decimal-next.ensures c.put_byte.ensures;
-      short = omega (arith, decimal_short 5 a.n, c.put_decimal-next.ensures.behind, c.put_byte.ensures.behind);
-    }
+    let s = decimal_short 5 a.n in
+    let l = ap (λ (x : List ℕ). length x) c.put_decimal.ensures ∙ length-append a.out.now.items (decimal 5 a.n) in
+    omega arith
+
+pub returns-clause-short : goal.returns-clause-short
+returns-clause-short c =
+    let a = c.args in
+    let s = decimal_short 5 a.n in
+    let l = ap (λ (x : List ℕ). length x) c.put_decimal.ensures ∙ length-append a.out.now.items (decimal 5 a.n) in
+    omega (arith, c.push.ensures.len)

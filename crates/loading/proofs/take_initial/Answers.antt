@@ -1,5 +1,4 @@
 -- A row that is no initial atom adds nothing; one that is has its atom appended.
-use borrow.Author.Rules.{rules}
 use Rattle.loading.proofs.Initial.{rule_row_taken, ceiling_taken, atom_room, atom_taken}
 use Rattle.loading.proofs.take_initial.Goals as goal
 
@@ -10,7 +9,7 @@ pub returns-then-r-ne41 : goal.returns-then-r-ne41
 returns-then-r-ne41 c = ceiling_taken c.requires c.if-r-ne0.false c.if-r-ne41.true
 
 pub append_atom-requires : goal.append_atom-requires
-append_atom-requires c = let room = atom_room c.requires c.if-r-ne0.false c.if-r-ne41.false in (c.requires.long, room.0, room.1)
+append_atom-requires c = atom_room c.requires c.if-r-ne0.false c.if-r-ne41.false
 
 pub returns : goal.returns
 returns c = atom_taken c.requires c.if-r-ne0.false c.if-r-ne41.false c.constant.ensures c.constant-2.ensures c.append_atom.ensures.counted c.append_atom.ensures.made

@@ -41,7 +41,6 @@ returns-then-rule-k-clause-is t c =
 pub loop-next-init : goal.loop-next-init
 loop-next-init t c =
     let a = c.args in (
-      c.requires.3,
       refl,
       refl,
       ap first_of (counted_next a.program.now a.words.now a.s a.rule a.k (found_in a.values.now a.matched.now a.count) c.if-rule-k.false c.row_at-r.result c.row_at-r.ensures ∙ sym (append-nil _)),
@@ -53,7 +52,7 @@ next_answer-requires t c =
     let a = c.args in
     let n = reasons_next a.program.now a.k a.rule.body c.if-rule-k.false c.row_at-r.result c.row_at-r.ensures in
     let q = c.requires.2 in
-    (c.requires.1, omega arith, c.loop-next.invariant.0, c.loop-next.invariant.1)
+    (c.requires.1, omega arith, c.loop-next.invariant.0)
 
 pub overflow_add-n : goal.overflow_add-n
 overflow_add-n t c =
@@ -72,13 +71,13 @@ search-requires t c =
     let i = ids_few c.row_at-r.result in
     let e = c.given_ids.ensures in
     let h = c.if-rule-k.false in
-    (omega arith, (c.requires.0, c.requires.1, omega arith, c.in-Some.ensures.sized))
+    (omega arith, (c.requires.0, c.requires.1, omega arith))
 
 pub returns-in_err-m-clause-kept : goal.returns-in_err-m-clause-kept
-returns-in_err-m-clause-kept t c = kept_on _ _ _ _ _ _ c.loop-next.invariant.2 c.next_answer.ensures.kept c.search.ensures.kept
+returns-in_err-m-clause-kept t c = kept_on _ _ _ _ _ _ c.loop-next.invariant.1 c.next_answer.ensures.kept c.search.ensures.kept
 
 pub returns-in-Some-m-clause-kept : goal.returns-in-Some-m-clause-kept
-returns-in-Some-m-clause-kept t c = kept_on _ _ _ _ _ _ c.loop-next.invariant.2 c.next_answer.ensures.kept c.search.ensures.kept
+returns-in-Some-m-clause-kept t c = kept_on _ _ _ _ _ _ c.loop-next.invariant.1 c.next_answer.ensures.kept c.search.ensures.kept
 
 pub returns-then-closes-clause-is : goal.returns-then-closes-clause-is
 returns-then-closes-clause-is t c =
@@ -88,16 +87,16 @@ returns-then-closes-clause-is t c =
     let f : Found = found_in a.values.now a.matched.now a.count in
     let h = sym c.closes.ensures ∙ c.if-closes.true in
     let n : a.count + c.given_ids.result ≡ a.count + given_ids r = ap (λ (g : ℕ). a.count + g) c.given_ids.ensures in
-    let one = given_one a.words.now a.s r a.values.now a.matched.now c.loop-next.matched _ _ a.count c.loop-next.c _ i.2 _ c.in-Some.ensures.is _ n in
+    let one = given_one a.words.now a.s r a.values.now a.matched.now c.loop-next.matched _ _ a.count c.loop-next.c _ i.1 _ c.in-Some.ensures.is _ n in
     record {
-      is = sym (pruned f _ _ [] i.3
-          (subst (λ (n : ℕ). Only f (answers a.words.now a.s r f n)) (sym (i.4 h)) (only_answers _ _ _ _ h))
+      is = sym (pruned f _ _ [] i.2
+          (subst (λ (n : ℕ). Only f (answers a.words.now a.s r f n)) (sym (i.3 h)) (only_answers _ _ _ _ h))
           _ _ one _ (ap (match_in _ _) (sym c.in_default-m.is) ∙ c.in_ok-m.ensures.is.is) refl);
       few = tt;
     }
 
 pub returns-then-closes-clause-kept : goal.returns-then-closes-clause-kept
-returns-then-closes-clause-kept t c = kept_on _ _ _ _ _ _ c.loop-next.invariant.2 c.next_answer.ensures.kept c.search.ensures.kept
+returns-then-closes-clause-kept t c = kept_on _ _ _ _ _ _ c.loop-next.invariant.1 c.next_answer.ensures.kept c.search.ensures.kept
 
 pub loop-next-preserved : goal.loop-next-preserved
 loop-next-preserved t c =
@@ -105,10 +104,9 @@ loop-next-preserved t c =
     let i = c.loop-next.invariant in
     let e = c.search.ensures in
     let n : a.count + c.given_ids.result ≡ a.count + given_ids c.row_at-r.result = ap (λ (g : ℕ). a.count + g) c.given_ids.ensures in
-    let one = given_one a.words.now a.s c.row_at-r.result a.values.now a.matched.now c.loop-next.matched _ _ a.count c.loop-next.c _ i.2 _ c.in-Some.ensures.is _ n in (
-      (c.requires.3.0, e.sized.1),
+    let one = given_one a.words.now a.s c.row_at-r.result a.values.now a.matched.now c.loop-next.matched _ _ a.count c.loop-next.c _ i.1 _ c.in-Some.ensures.is _ n in (
       refl,
-      kept_on _ _ _ _ _ _ i.2 c.next_answer.ensures.kept e.kept,
-      backed _ _ [] i.3 _ _ one _ (ap (match_in _ _) (sym c.in_default-m.is) ∙ c.in_ok-m.ensures.is.is) refl,
+      kept_on _ _ _ _ _ _ i.1 c.next_answer.ensures.kept e.kept,
+      backed _ _ [] i.2 _ _ one _ (ap (match_in _ _) (sym c.in_default-m.is) ∙ c.in_ok-m.ensures.is.is) refl,
       λ h. absurd (false≢true (sym c.if-closes.false ∙ c.closes.ensures ∙ h)),
     )

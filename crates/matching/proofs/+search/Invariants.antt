@@ -5,14 +5,14 @@ use mathlib.Core.Path.{◌≡◌}
 use mathlib.Core.Bool.{true}
 use mathlib.Core.List.{[], ◌++◌}
 use Rattle.lists.specs.Lists.{first_of, bind}
-use Rattle.queries.specs.View.{found_in, Sized, Kept}
+use Rattle.queries.specs.View.{found_in, Kept}
 use Rattle.queries.specs.Answers.{answers, width, closed}
 use Rattle.matching.specs.Rules.{counted}
 use Rattle.matching.proofs.+search.Given as goal
 
 abbrev pub invariant-loop-next : goal.invariant-loop-next
 invariant-loop-next l =
-    Sized l.values l.matched × (l.values ≡ l.fn.values) × Kept l.count l.fn.matched l.matched
+    (l.values ≡ l.fn.values) × Kept l.count l.fn.matched l.matched
     × (first_of (counted l.program l.words l.s l.rule l.k (found_in l.fn.values l.fn.matched l.count))
     ≡ first_of (bind (answers l.words l.s l.r (found_in l.fn.values l.fn.matched l.count) l.c) (counted l.program l.words l.s l.rule (l.k + 1)) ++ []))
     × (closed l.r l.fn.values ≡ true → l.c ≡ 0)

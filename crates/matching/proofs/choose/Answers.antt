@@ -5,7 +5,6 @@ use mathlib.Core.Bool.{false≢true}
 use mathlib.Core.List.{[], ◌∷◌}
 use Prim.Native.Nat.{ℕ, ◌+◌}
 use native.Mathlib.Omega.{arith}
-use lib.ListN.{length}
 use Rattle.lists.specs.Lists.{first_of}
 use Rattle.lists.proofs.Search.{Only, spent, reached, backed, pruned}
 use Rattle.model.specs.declared.Row.{Row}
@@ -21,7 +20,7 @@ use Rattle.matching.proofs.choose.Goals as goal
 use Rattle.matching.proofs.choose.Goals.{in-Some+in-Err+in_default-search_on, in-Some+in-Ok-None+then-once, in_default}
 
 pub loop-start-init : goal.loop-start-init
-loop-start-init c = (record { positive = omega arith; bound = c.first_from-start.ensures; is = fires_all _ _ _ }, (search rules, search rules), refl)
+loop-start-init c = (record { positive = omega arith; bound = c.first_from-start.ensures; is = fires_all _ _ _ }, refl)
 
 pub returns-then-r-set-clause-is : goal.returns-then-r-set-clause-is
 returns-then-r-set-clause-is c = choice_ends _ _ _ _ _ _ c.loop-start.invariant.0 c.requires.0 (λ h q. c.if-r-set.true (ap (λ (r : Row). r.set) c.row_at-r.ensures ∙ q))
@@ -51,7 +50,6 @@ candidates-init c =
             (rule_there a.program.now c.requires.0 a.set c.loop-start.number c.loop-start.start c.loop-start.invariant.0.bound c.loop-start-test.true (ap (λ (r : Row). r.set) (sym c.row_at-r.ensures) ∙ c.if-r-set.false)) c.if-body-start.false c.row_at-r.result c.row_at-r.ensures (found_in c.nothing-f.result.values [] 0) z);
       },
       c.loop-start.invariant.1,
-      c.loop-start.invariant.2,
     )
 
 pub next_answer-requires : goal.next_answer-requires
@@ -60,7 +58,7 @@ next_answer-requires c =
     let p = parts c.loop-start.invariant.0.bound c.part_end-context.ensures c.part_end-body.ensures c.part_end-end.ensures in
     let n = reasons_next a.program.now c.loop-start.start c.part_end-body.result c.if-body-start.false c.row_at-r.result c.row_at-r.ensures in
     let m = reasons_few _ _ _ _ _ _ _ p c.requires.0 in
-    (c.requires.1, omega arith, c.candidates.invariant.1, c.candidates.invariant.2)
+    (c.requires.1, omega arith, c.candidates.invariant.1)
 
 pub search-requires : goal.search-requires
 search-requires c =
@@ -70,7 +68,7 @@ search-requires c =
     let m = reasons_few _ _ _ _ _ _ _ p c.requires.0 in
     let k = ids_few c.row_at-r.result in
     let e = c.given_ids-ids.ensures in
-    (located _ _ _ _ _ _ _ p, c.requires.1, omega arith, c.next_answer.ensures.sized)
+    (located _ _ _ _ _ _ _ p, c.requires.1, omega arith)
 
 pub returns-in-Ok-Some-clause-is : goal.returns-in-Ok-Some-clause-is
 returns-in-Ok-Some-clause-is c =
@@ -89,7 +87,7 @@ pub search_on-requires : goal.search_on-requires
 search_on-requires c =
     let p = parts c.loop-start.invariant.0.bound c.part_end-context.ensures c.part_end-body.ensures c.part_end-end.ensures in
     let v = c.candidates.invariant in
-    (located _ _ _ _ _ _ _ p, c.requires.1, c.if-body-start.false, reasons_few _ _ _ _ _ _ _ p c.requires.0, (sym (ap length v.2) ∙ v.1.0, c.search.ensures.sized.1))
+    (located _ _ _ _ _ _ _ p, c.requires.1, c.if-body-start.false, reasons_few _ _ _ _ _ _ _ p c.requires.0)
 
 pub returns-in-Err-clause-is : goal.returns-in-Err-clause-is
 returns-in-Err-clause-is c = rest_one c.candidates.invariant.0 c.row_at-r.ensures _ c.in-Some-search_on.ensures.is.is refl
@@ -109,7 +107,6 @@ candidates-preserved c =
         at_first = λ o. absurd (false≢true (sym c.if-once.false ∙ o));
         is = backed _ _ _ v.0.is _ _ one _ (firing_first _ _ _ _ _ _ _ none) refl;
       },
-      (sym (ap length v.2) ∙ v.1.0, c.search.ensures.sized.1),
       refl,
     )
 
@@ -148,11 +145,6 @@ loop-start-preserved c =
           | in_default w ↦ spent _ _ _ v.0.is (given_none a.words.now a.s r c.nothing-f.result.values [] c.candidates.matched _ _ 0 c.candidates.from _ refl w.in_default.ensures.is)
         ];
       },
-      elim c.match-next_answer.branch [
-        | in-Some+in-Err+in_default-search_on w ↦ (ap length w.values-is ∙ w.search_on.ensures.sized.0, ap length w.matched-is ∙ w.search_on.ensures.sized.1)
-        | in-Some+in-Ok-None+then-once w ↦ (ap length w.values-is ∙ sym (ap length v.2) ∙ v.1.0, ap length w.matched-is ∙ w.search.ensures.sized.1)
-        | in_default w ↦ (ap length w.values-is ∙ n.sized.0, ap length w.matched-is ∙ n.sized.1)
-      ],
       elim c.match-next_answer.branch [
         | in-Some+in-Err+in_default-search_on w ↦ w.values-is ∙ w.in_default-search_on.ensures.back refl
         | in-Some+in-Ok-None+then-once w ↦ w.values-is

@@ -3,19 +3,19 @@
 use mathlib.Core.Path.{◌≡◌}
 use mathlib.Core.List.{[]}
 use Prim.Native.Nat.{◌-◌}
-use Rattle.queries.specs.View.{found_in, Sized}
+use Rattle.queries.specs.View.{found_in}
 use Rattle.queries.specs.Answers.{width}
 use Rattle.matching.proofs.Firing.{Choosing, Trying}
 use Rattle.matching.proofs.choose.Given as goal
 
 abbrev pub invariant-candidates : goal.invariant-candidates
-invariant-candidates l = Trying l.program l.words l.s l.rule l.start l.r (found_in l.f.values [] 0) l.once l.from × Sized l.values l.matched × (l.values ≡ l.f.values)
+invariant-candidates l = Trying l.program l.words l.s l.rule l.start l.r (found_in l.f.values [] 0) l.once l.from × (l.values ≡ l.f.values)
 
 abbrev pub decreases-candidates : goal.decreases-candidates
 decreases-candidates l = width l.s l.r - l.from
 
 abbrev pub invariant-loop-start : goal.invariant-loop-start
-invariant-loop-start l = Choosing l.program l.words l.s l.set l.number l.start × Sized l.values l.matched × (l.values ≡ l.f.values)
+invariant-loop-start l = Choosing l.program l.words l.s l.set l.number l.start × (l.values ≡ l.f.values)
 
 abbrev pub decreases-loop-start : goal.decreases-loop-start
 decreases-loop-start l = l.n - l.start

@@ -1,21 +1,16 @@
 -- A plan with other justifications is not equal, and one after the other is compared with the match.
 use borrow.Author.Rules.{rules}
-use borrow.Author.Tests.{not-false}
 use mathlib.Core.Path.{◌≡◌, sym, ap, ◌∙◌}
 use native.Mathlib.Omega.{arith}
 use lib.ListN.{length}
 use Rattle.lists.specs.Lists.{same}
 use Rattle.model.specs.Configuration.{Plan}
-use Rattle.model.specs.Matching.{justifications_of, counts}
+use Rattle.model.specs.Matching.{justifications_of}
 use Rattle.program.specs.Rows.{rows_of}
 use Rattle.state.specs.View.{plan_at}
 use Rattle.queries.specs.View.{found_of}
-use Rattle.matching.proofs.Plans.{some_here, some_next, some_end, not_same, other_justified}
+use Rattle.matching.proofs.Plans.{some_next, not_same, other_justified}
 use Rattle.matching.proofs.counts.Goals as goal
-
-pub returns-then-not-rule : goal.returns-then-not-rule
-unfolding counts
-returns-then-not-rule c = rw (← c.requires.0.object_is, c.if-not-rule.true)
 
 -- plan k has other justifications
 pub loop-k-preserved-then-not-words_agree : goal.loop-k-preserved-then-not-words_agree
@@ -36,17 +31,4 @@ equal_plan-requires c =
     let a = k.plans in
     let e = c.rising_set-l.ensures in
     let p = c.requires.2 in
-    (c.requires.0, k.long, omega arith, omega (arith, e.few), e.is)
-
-pub returns-then-equal_plan : goal.returns-then-equal_plan
-unfolding counts
-returns-then-equal_plan c =
-    sym (rw (← c.requires.0.object_is, not-false c.args.rule.object c.if-not-rule.false, c.loop-k.invariant ∙ some_here _ _ _ _ c.loop-k-test.true (sym c.equal_plan.ensures ∙ c.if-equal_plan.true)))
-
-pub loop-k-preserved : goal.loop-k-preserved
-loop-k-preserved c = c.loop-k.invariant ∙ some_next _ _ _ _ c.loop-k-test.true (sym c.equal_plan.ensures ∙ c.if-equal_plan.false)
-
-pub returns : goal.returns
-unfolding counts
-returns c =
-    sym (rw (← c.requires.0.object_is, not-false c.args.rule.object c.if-not-rule.false, c.loop-k.invariant ∙ some_end _ _ _ _ c.loop-k-test.false))
+    (c.requires.0, omega arith, omega (arith, e.few), e.is)

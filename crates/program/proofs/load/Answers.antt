@@ -31,7 +31,7 @@ returns-in_default c =
 pub take_row-requires : goal.take_row-requires
 take_row-requires c =
     let at = c.loop-at.invariant in
-    (at.0.small, at.1, (row_range at.0 c.loop-at-test.true c.newline-end.ensures c.if-text-end.false c.in-Some.ensures).p)
+    (at.0.small, (row_range at.0 c.loop-at-test.true c.newline-end.ensures c.if-text-end.false c.in-Some.ensures).p)
 
 pub returns-in_err-next : goal.returns-in_err-next
 returns-in_err-next c =

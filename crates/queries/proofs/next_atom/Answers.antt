@@ -10,15 +10,15 @@ pub loop-c-init : goal.loop-c-init
 loop-c-init c =
     let p = c.requires in
     let k = c.skip_atoms-c.ensures None in
-    seeking_on (seeking_first p.2 p.3) _ k.on (hits_past_atoms _ _ p.4 p.5 _ _ _ _ _ _ p.6 p.7 k)
+    seeking_on (seeking_first p.2) _ k.on (hits_past_atoms _ _ p.3 p.4 _ _ _ _ _ _ p.5 p.6 k)
 
 pub returns-then-take-clause-is : goal.returns-then-take-clause-is
 returns-then-take-clause-is c =
     let a = c.args in
     let p = c.requires in
-    let n = atoms_counted a.s a.r p.4 p.5 in
+    let n = atoms_counted a.s a.r p.3 p.4 in
     let k = c.loop-c-test.true in
-    seeking_hits c.loop-c.invariant (omega arith) c.atom_candidate-x.result (c.atom_candidate-x.ensures ∙ atom_at_number a.s a.r p.4 p.5 _ _) c.take.result _ _ c.take.ensures.is c.if-take.true
+    seeking_hits c.loop-c.invariant (omega arith) c.atom_candidate-x.result (c.atom_candidate-x.ensures ∙ atom_at_number a.s a.r p.3 p.4 _ _) c.take.result _ _ c.take.ensures.is c.if-take.true
 
 pub loop-c-smaller : goal.loop-c-smaller
 loop-c-smaller c =
@@ -30,16 +30,16 @@ pub loop-c-preserved : goal.loop-c-preserved
 loop-c-preserved c =
     let a = c.args in
     let p = c.requires in
-    let n = atoms_counted a.s a.r p.4 p.5 in
+    let n = atoms_counted a.s a.r p.3 p.4 in
     let h = c.loop-c-test.true in
     let k = c.skip_atoms-c-in-loop-c.ensures None in
     seeking_on
-    (seeking_misses c.loop-c.invariant (omega arith) c.atom_candidate-x.result (c.atom_candidate-x.ensures ∙ atom_at_number a.s a.r p.4 p.5 _ _) c.take.result _ _ c.take.ensures.is c.if-take.false c.take.ensures.sized.1 c.take.ensures.kept)
-    _ k.on (hits_past_atoms _ _ p.4 p.5 _ _ _ _ _ _ p.6 p.7 k)
+    (seeking_misses c.loop-c.invariant (omega arith) c.atom_candidate-x.result (c.atom_candidate-x.ensures ∙ atom_at_number a.s a.r p.3 p.4 _ _) c.take.result _ _ c.take.ensures.is c.if-take.false c.take.ensures.kept)
+    _ k.on (hits_past_atoms _ _ p.3 p.4 _ _ _ _ _ _ p.5 p.6 k)
 
 pub returns-clause-is : goal.returns-clause-is
 returns-clause-is c =
     let a = c.args in
-    let n = atoms_counted a.s a.r c.requires.4 c.requires.5 in
+    let n = atoms_counted a.s a.r c.requires.3 c.requires.4 in
     let h = c.loop-c-test.false in
     seeking_ends c.loop-c.invariant (omega arith)

@@ -8,7 +8,7 @@ pub loop-c-init : goal.loop-c-init
 loop-c-init c =
     let p = c.requires in
     let k = c.skip-c.ensures in
-    seeking_on (seeking_first p.2 p.3) _ k.on (hits_skipped _ _ _ _ _ _ _ _ _ c.wanted_by-i.ensures.wants c.wanted_by-a.ensures.wants c.wanted_by-b.ensures.wants k)
+    seeking_on (seeking_first p.2) _ k.on (hits_skipped _ _ _ _ _ _ _ _ _ c.wanted_by-i.ensures.wants c.wanted_by-a.ensures.wants c.wanted_by-b.ensures.wants k)
 
 pub candidate_at-x-requires : goal.candidate_at-x-requires
 candidate_at-x-requires c = let n = c.count-n.ensures in let h = c.loop-c-test.true in (c.requires.0, omega arith)
@@ -28,7 +28,7 @@ loop-c-preserved c =
     let h = c.loop-c-test.true in
     let k = c.skip-c-in-loop-c.ensures in
     seeking_on
-    (seeking_misses c.loop-c.invariant (omega arith) c.candidate_at-x.result c.candidate_at-x.ensures c.take.result _ _ c.take.ensures.is c.if-take.false c.take.ensures.sized.1 c.take.ensures.kept)
+    (seeking_misses c.loop-c.invariant (omega arith) c.candidate_at-x.result c.candidate_at-x.ensures c.take.result _ _ c.take.ensures.is c.if-take.false c.take.ensures.kept)
     _ k.on (hits_skipped _ _ _ _ _ _ _ _ _ c.wanted_by-i.ensures.wants c.wanted_by-a.ensures.wants c.wanted_by-b.ensures.wants k)
 
 pub returns-clause-is : goal.returns-clause-is

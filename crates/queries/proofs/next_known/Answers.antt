@@ -7,12 +7,12 @@ use Rattle.queries.proofs.next_known.Goals as goal
 pub returns-in_err-c-clause-is : goal.returns-in_err-c-clause-is
 returns-in_err-c-clause-is c =
     let a = c.args in
-    rw c.from_residual.ensures (record { is = alone_none a.words.now a.s a.r (found_in a.before a.matched.now a.count) _ c.requires.4 c.in_err-c.ensures a.from; further = tt })
+    rw c.from_residual.ensures (record { is = alone_none a.words.now a.s a.r (found_in a.before a.matched.now a.count) _ c.requires.3 c.in_err-c.ensures a.from; further = tt })
 
 pub returns-then-c-from-clause-is : goal.returns-then-c-from-clause-is
 returns-then-c-from-clause-is c =
     let a = c.args in
-    record { is = alone_past a.words.now a.s a.r (found_in a.before a.matched.now a.count) _ _ c.requires.4 c.in_ok-c.ensures a.from c.if-c-from.true; further = tt }
+    record { is = alone_past a.words.now a.s a.r (found_in a.before a.matched.now a.count) _ _ c.requires.3 c.in_ok-c.ensures a.from c.if-c-from.true; further = tt }
 
 pub returns-then-take-clause-is : goal.returns-then-take-clause-is
 returns-then-take-clause-is c =
@@ -20,8 +20,8 @@ returns-then-take-clause-is c =
     let h = c.if-c-from.false in
     let low = c.in_ok-c.ensures.inside in
     record {
-      is = alone_fits a.words.now a.s a.r (found_in a.before a.matched.now a.count) _ _ c.requires.4 c.in_ok-c.ensures a.from h c.candidate_at-x.result c.candidate_at-x.ensures c.take.result _
-          (rw c.requires.3 at c.take.ensures.is) c.if-take.true;
+      is = alone_fits a.words.now a.s a.r (found_in a.before a.matched.now a.count) _ _ c.requires.3 c.in_ok-c.ensures a.from h c.candidate_at-x.result c.candidate_at-x.ensures c.take.result _
+          (rw c.requires.2 at c.take.ensures.is) c.if-take.true;
       further = (omega arith, omega arith);
     }
 
@@ -30,7 +30,7 @@ returns-clause-is c =
     let a = c.args in
     let h = c.if-c-from.false in
     record {
-      is = alone_fails a.words.now a.s a.r (found_in a.before a.matched.now a.count) _ _ c.requires.4 c.in_ok-c.ensures a.from h c.candidate_at-x.result c.candidate_at-x.ensures c.take.result _
-          (rw c.requires.3 at c.take.ensures.is) c.if-take.false;
+      is = alone_fails a.words.now a.s a.r (found_in a.before a.matched.now a.count) _ _ c.requires.3 c.in_ok-c.ensures a.from h c.candidate_at-x.result c.candidate_at-x.ensures c.take.result _
+          (rw c.requires.2 at c.take.ensures.is) c.if-take.false;
       further = tt;
     }

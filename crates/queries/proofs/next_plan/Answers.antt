@@ -9,21 +9,21 @@ pub returns-then-take-clause-is : goal.returns-then-take-clause-is
 returns-then-take-clause-is c =
     let a = c.args in
     let p = c.requires in
-    let n = plans_numbered a.s a.r p.4 p.5 in
+    let n = plans_numbered a.s a.r p.3 p.4 in
     let k = c.loop-c-test.true in
-    seeking_hits c.loop-c.invariant (omega arith) c.plan_candidate-x.result (c.plan_candidate-x.ensures ∙ plan_at_number a.s a.r p.4 p.5 _ _) c.take.result _ _ c.take.ensures.is c.if-take.true
+    seeking_hits c.loop-c.invariant (omega arith) c.plan_candidate-x.result (c.plan_candidate-x.ensures ∙ plan_at_number a.s a.r p.3 p.4 _ _) c.take.result _ _ c.take.ensures.is c.if-take.true
 
 pub loop-c-preserved : goal.loop-c-preserved
 loop-c-preserved c =
     let a = c.args in
     let p = c.requires in
-    let n = plans_numbered a.s a.r p.4 p.5 in
+    let n = plans_numbered a.s a.r p.3 p.4 in
     let k = c.loop-c-test.true in
-    seeking_misses c.loop-c.invariant (omega arith) c.plan_candidate-x.result (c.plan_candidate-x.ensures ∙ plan_at_number a.s a.r p.4 p.5 _ _) c.take.result _ _ c.take.ensures.is c.if-take.false c.take.ensures.sized.1 c.take.ensures.kept
+    seeking_misses c.loop-c.invariant (omega arith) c.plan_candidate-x.result (c.plan_candidate-x.ensures ∙ plan_at_number a.s a.r p.3 p.4 _ _) c.take.result _ _ c.take.ensures.is c.if-take.false c.take.ensures.kept
 
 pub returns-clause-is : goal.returns-clause-is
 returns-clause-is c =
     let a = c.args in
-    let n = plans_numbered a.s a.r c.requires.4 c.requires.5 in
+    let n = plans_numbered a.s a.r c.requires.3 c.requires.4 in
     let h = c.loop-c-test.false in
     seeking_ends c.loop-c.invariant (omega arith)

@@ -34,7 +34,7 @@ returns-in-1-to-8-clause-wants c = rw c.then_some.ensures (at (eqb v 65536) refl
     at true k = record { misses = tt }
     at false k =
         let l = c.args.values.now in
-        let is = get_within l (8 - x) 65536 0 (omega (arith, c.requires)) in
+        let is = get_within l (8 - x) 65536 0 (omega arith) in
         let z : eqb x 0 ≡ false = ne_eqb x 0 (λ (e : x ≡ 0). let h = c.in-1-to-8 in omega arith) in
         record {
           misses = λ n h u g.

@@ -10,4 +10,4 @@ use Rattle.state.proofs.plan_justifications.Goals as goal
 pub returns : goal.returns
 returns c =
     let a = c.args in
-    rw (made_by _ _ (λ (j : ℕ). get_or (plan_at a.words.now a.k).justifications j 0) (λ i y q e. search rules) c.from_fn.result 4 c.from_fn.ensures.items) (justification_words a.words.now a.k c.requires.0 c.requires.1)
+    rw (made_by _ _ (λ (j : ℕ). get_or (plan_at a.words.now a.k).justifications j 0) (λ i y q e. search rules) c.from_fn.result 4 c.from_fn.ensures.items) (justification_words a.words.now a.k (search rules) c.requires)

@@ -12,4 +12,4 @@ use Rattle.state.proofs.plan_values.Goals as goal
 pub returns : goal.returns
 returns c =
     let a = c.args in
-    made_by _ _ (λ (j : ℕ). get_or (plan_at a.words.now a.k).values j no_value) (λ i y q e. search rules) c.from_fn.result 8 c.from_fn.ensures.items ∙ value_words a.words.now a.k c.requires.0 c.requires.1
+    made_by _ _ (λ (j : ℕ). get_or (plan_at a.words.now a.k).values j no_value) (λ i y q e. search rules) c.from_fn.result 8 c.from_fn.ensures.items ∙ value_words a.words.now a.k (search rules) c.requires

@@ -1,13 +1,6 @@
 use mathlib.Core.Path.{sym, ◌∙◌}
-use Rattle.queries.proofs.Skips.{skip_none}
 use Rattle.queries.proofs.Eights.{skipped_chain}
 use Rattle.queries.proofs.candidates.skip_atoms.Goals as goal
-
-pub returns-then-n-from : goal.returns-then-n-from
-returns-then-n-from c = λ i. skip_none _ _ _ _ _
-
-pub returns-then-stands : goal.returns-then-stands
-returns-then-stands c = λ i. skip_none _ _ _ _ _
 
 pub returns : goal.returns
 returns c =

@@ -33,10 +33,9 @@ loop-j-init c =
 
 pub plan_justification-atom-requires : goal.plan_justification-atom-requires
 plan_justification-atom-requires c =
-    let p = c.requires in
     let few = justifications_few c.args.words.now c.loop-k.k in
     let e = c.justification_count-j-end.ensures in
-    (p.0, omega arith, omega arith)
+    (omega arith, omega arith)
 
 pub loop-j-preserved : goal.loop-j-preserved
 loop-j-preserved c =

@@ -7,9 +7,8 @@ use Rattle.rows.proofs.quick.quick_row.Goals as goal
 
 pub in_set_0-requires : goal.in_set_0-requires
 in_set_0-requires c = (
-  low_begun _ _ _ _ _ c.requires.0 (c.follows.ensures c.if-not-follows.false 512 _ []) (c.begun-t.ensures 512 []),
+  low_begun _ _ _ _ _ c.requires (c.follows.ensures c.if-not-follows.false 512 _ []) (c.begun-t.ensures 512 []),
   c.if-r-eq0.true,
-  c.requires.2,
   (c.is_bounded.ensures c.if-not-is_bounded.false).p,
 )
 
@@ -22,7 +21,7 @@ returns-then-r-eq0-clause-passed c =
 
 pub in_rule-requires : goal.in_rule-requires
 in_rule-requires c = (
-  low_begun _ _ _ _ _ c.requires.0 (c.follows.ensures c.if-not-follows.false 512 _ []) (c.begun-t.ensures 512 []),
+  low_begun _ _ _ _ _ c.requires (c.follows.ensures c.if-not-follows.false 512 _ []) (c.begun-t.ensures 512 []),
   c.if-r-eq0.false,
 )
 

@@ -1,9 +1,0 @@
--- The measure is how many steps are left.
-use Rattle.std.proofs.Common.{◌-◌}
-use Rattle.replay.proofs.calls.steps.Given as goal
-
-abbrev pub invariant-loop-k : goal.invariant-loop-k
-invariant-loop-k l = Unit {0}
-
-abbrev pub decreases-loop-k : goal.decreases-loop-k
-decreases-loop-k l = l.count - l.k
