@@ -69,7 +69,7 @@ pub struct Unvalued {
 }
 
 // 5: "set over 8, rule over 32, too many rows (in all or of a part) or initial atoms"
-#[tactic(auto, unfolding(model::specs::Load::too_many))]
+#[tactic(auto, using(crate::proofs::Tests::part_left))]
 pub fn limit_of(s: Scan, r: Row) -> Limit
     requires { too_many s r ≡ true }
     ensures { Exceeds s r result }
@@ -91,6 +91,7 @@ pub fn limit_of(s: Scan, r: Row) -> Limit
 }
 
 // 3: "a rule lacking rows"
+#[tactic(auto, using(crate::proofs::Tests::in_a_rule, crate::proofs::Tests::no_reason, crate::proofs::Tests::no_body))]
 pub fn lack_of(s: Scan) -> Lack
     requires { lacking s ≡ true }
     ensures { Lacks s result }
@@ -405,7 +406,7 @@ pub fn breach_of(s: Scan, t: Scan, r: Row) -> Breach
 }
 
 // 4: "body variable without value"
-#[tactic(auto, unfolding(model::specs::Load::valueless, model::specs::Load::new_variable))]
+#[tactic(auto, using(crate::proofs::Tests::i_left), unfolding(model::specs::Load::valueless, model::specs::Load::new_variable))]
 pub fn unvalued_of(t: Scan, r: Row) -> Unvalued
     requires { valueless t r ≡ true }
     ensures { LacksValue t r result }

@@ -1,5 +1,5 @@
-// "The machine's control program holds one configuration and changes it in place": each call takes it by `&mut` and leaves the next one
-// in its place. A refused call leaves the very configuration that it found.
+// "The machine's control program holds one configuration and changes it in place": each call takes it by `&mut`, passes it to the call
+// by value (`interpreter`), and leaves the next one in its place. A refused call leaves the very configuration that it found.
 #![tactic(auto)]
 
 ghost use Rattle.std.specs.Prelude.{◌≡◌, OnErr};
@@ -28,17 +28,20 @@ pub fn sense(program: &[u32], config: &mut Config, rows: &[u32]) -> Result<Count
     ensures config_after { answered (conf config.new) result ≡ reply (to_sense (given_rows program.now) (readings_of rows.now)) (conf config.old) }
     ensures untouched { OnErr result (config.new ≡ config.old) }
 {
-    in_place::sense(program, &mut config.words, &mut config.scalars, rows)
+    let r = interpreter::sense(program, *config, rows);
+    *config = r.config;
+    r.answer
 }
 
 // Refusals 1, 6, 8, 9, 10, 11.
-#[tactic(auto, using(interpreter::proofs::Replies::obeys))]
 pub fn step(program: &[u32], config: &mut Config) -> Result<Stepped, Refusal>
     ensures config_after { step_answered (conf config.new) result ≡ reply (to_step (given_rows program.now)) (conf config.old) }
     ensures untouched { OnErr result (config.new ≡ config.old) }
     ensures obeys { Obeys (given_rows program.now) (conf config.old) (record { config = config.new; answer = result }) }
 {
-    in_place::step(program, &mut config.words, &mut config.scalars)
+    let r = interpreter::step(program, *config);
+    *config = r.config;
+    r.answer
 }
 
 // 1 removes the step of the plan that waits, 0 sets failed. Refusals 1, 6, 7.
@@ -46,7 +49,9 @@ pub fn answer(program: &[u32], config: &mut Config, n: u32) -> Result<Counts, Re
     ensures config_after { answered (conf config.new) result ≡ reply (to_answer (given_rows program.now) n) (conf config.old) }
     ensures untouched { OnErr result (config.new ≡ config.old) }
 {
-    in_place::answer(program, &mut config.words, &mut config.scalars, n)
+    let r = interpreter::answer(program, *config, n);
+    *config = r.config;
+    r.answer
 }
 
 // An id, atom or plan, with all that it reaches. Refusals 1, 6, 12.
@@ -54,7 +59,9 @@ pub fn delete(program: &[u32], config: &mut Config, id: u32) -> Result<Counts, R
     ensures config_after { answered (conf config.new) result ≡ reply (to_delete (given_rows program.now) id) (conf config.old) }
     ensures untouched { OnErr result (config.new ≡ config.old) }
 {
-    in_place::delete(program, &mut config.words, &mut config.scalars, id)
+    let r = interpreter::delete(program, *config, id);
+    *config = r.config;
+    r.answer
 }
 
 // Steps in turn, 1 to 10,000. Refusals 1, 6, 7.
@@ -62,5 +69,7 @@ pub fn run(program: &[u32], config: &mut Config, limit: u32) -> Result<Ran, Refu
     ensures config_after { run_answered (conf config.new) result ≡ run-of-steps (given_rows program.now) (conf config.old) limit }
     ensures untouched { OnErr result (config.new ≡ config.old) }
 {
-    in_place::run(program, &mut config.words, &mut config.scalars, limit)
+    let r = interpreter::run(program, *config, limit);
+    *config = r.config;
+    r.answer
 }

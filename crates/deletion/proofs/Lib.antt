@@ -1,3 +1,4 @@
+pub mod Marks
 pub mod Pass
 pub mod Unlinked
 pub mod Kept

@@ -5,14 +5,57 @@ use mathlib.Core.List.{List, [], ◌∷◌, ◌++◌, append_assoc}
 use mathlib.Core.Logic.{⊎_elim, ◌≢◌}
 use Prim.Native.Nat.{ℕ, zero, suc, ◌+◌, ◌-◌, ◌<◌, ◌≤◌}
 use native.Mathlib.Omega.{arith}
-use lib.ListN.{length, get_or, drop}
+use lib.ListN.{length, get_or, set, drop, length-set}
+use lib.Seq.{get_or-set_same, get_or-set_other, drop-set-lt}
 use Rattle.lists.specs.Tables.{tabulate, keep_by}
 use Rattle.lists.proofs.Bind.{append-nil}
-use Rattle.lists.proofs.Tables.{equal_or_not, tabulate_same, keep_by_nil, keep_by_more}
+use Rattle.lists.proofs.Tables.{equal_or_not, less_or_more, tabulate_same, keep_by_nil, keep_by_more}
 use Rattle.model.specs.declared.Atom.{Atom}
 use Rattle.state.specs.View.{atom_p, atom_a, atom_b, atom_cycle, plans_at, atom_at, atoms_of}
 use Rattle.state.proofs.Made.{plans_stand}
 use Rattle.deletion.specs.Moves.{Moved, AtomsMoved}
+
+pub less : (i k : ℕ) → i ≢ k → i < k + 1 → i < k
+less i k ne p = ⊎_elim (λ (q : i < k). q) (λ (q : k < i). absurd (omega arith)) (less_or_more i k ne)
+
+-- one word more, as it stood at first
+pub moved_put : (W X : List ℕ) (from to k : ℕ) → to + k < length W → Moved W from to k X → Moved W from to (k + 1) (set X (to + k) (get_or W (from + k) 0))
+moved_put W X from to k g m = record {
+  long = length-set X (to + k) v ∙ m.long;
+  below = λ j p. get_or-set_other X (to + k) j v 0 (λ e. omega arith) ∙ m.below j p;
+  here = λ i p. ⊎_elim
+      (λ (e : i ≡ k). let z : to + i ≡ to + k = omega arith in let y : from + k ≡ from + i = omega arith in
+      ap (λ (q : ℕ). get_or (set X (to + k) v) q 0) z ∙ get_or-set_same X (to + k) v 0 within ∙ ap (λ (q : ℕ). get_or W q 0) y)
+      (λ (ne : i ≢ k). let fewer : i < k = less i k ne p in get_or-set_other X (to + k) (to + i) v 0 (λ e. omega arith) ∙ m.here i fewer)
+      (equal_or_not i k);
+  above = λ j p. get_or-set_other X (to + k) j v 0 (λ e. omega arith) ∙ m.above j (omega arith);
+  behind = λ q p. drop-set-lt q X (to + k) v (omega arith) ∙ m.behind q (omega arith);
+}
+  where
+    v : ℕ
+    v = get_or W (from + k) 0
+
+    within : to + k < length X
+    within = let l = m.long in omega arith
+
+-- the same word read after the others: what goes down was not written yet
+pub moved_one : (W X : List ℕ) (from to k : ℕ) → to ≤ from → from + k < length W → Moved W from to k X →
+    Moved W from to (k + 1) (set X (to + k) (get_or X (from + k) 0))
+moved_one W X from to k h g m =
+    let e : get_or W (from + k) 0 ≡ get_or X (from + k) 0 = sym (m.above (from + k) (omega arith)) in
+    subst (λ (v : ℕ). Moved W from to (k + 1) (set X (to + k) v)) e (moved_put W X from to k (omega arith) m)
+
+-- the same by the place that is written
+pub moved_next : (W X : List ℕ) (gap to k : ℕ) → to ≤ k → k + gap < length W → Moved W (to + gap) to (k - to) X →
+    Moved W (to + gap) to (k + 1 - to) (set X k (get_or X (k + gap) 0))
+moved_next W X gap to k g l m =
+    let a : to + (k - to) ≡ k = omega arith in
+    let b : to + gap + (k - to) ≡ k + gap = omega arith in
+    let c : k - to + 1 ≡ k + 1 - to = omega arith in
+    subst (λ (q : ℕ). Moved W (to + gap) to q (set X k (get_or X (k + gap) 0))) c
+    (subst (λ (q : ℕ). Moved W (to + gap) to (k - to + 1) (set X k (get_or X q 0))) b
+    (subst (λ (q : ℕ). Moved W (to + gap) to (k - to + 1) (set X q (get_or X (to + gap + (k - to)) 0))) a
+    (moved_one W X (to + gap) to (k - to) (omega arith) (omega arith) m)))
 
 -- a column that another move leaves as it is
 module _ (W X : List ℕ) (c from to n : ℕ) (h : to ≤ from) (few : from + n ≤ 256) (m : Moved W (c + from) (c + to) n X) where

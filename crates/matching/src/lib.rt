@@ -326,15 +326,16 @@ pub fn choose<'a>(program: &'a [u32], words: &'a Words, s: Scalars, set: u32) ->
     let before = f.values;
     let mut values = before;
     let mut matched = f.matched;
+    let mut chosen = None;
     let n = program.len() / 8;
     // kept: the new form is no plainer (the rule's own number, no kind)
     let mut number: u32 = 1;
     let mut start = spans::first_from(program, set, 1, 1);
     // kept: no plainer otherwise. The next rule begins where this one ends
-    while start < n {
+    'rules: while start < n {
         let r = program::row_at(program, start);
         if r.set != set {
-            return None;
+            break 'rules;
         }
         let context = spans::part_end(program, start, set, number, 1);
         let body = spans::part_end(program, context, set, number, 2);
@@ -348,7 +349,8 @@ pub fn choose<'a>(program: &'a [u32], words: &'a Words, s: Scalars, set: u32) ->
         };
         // with no row to try it matches as it is
         if body <= start {
-            return Some(Choice { bindings: f, rule });
+            chosen = Some(Choice { bindings: f, rule });
+            break 'rules;
         }
         let once = queries::closes(r, before);
         let mut fuel = FUEL;
@@ -377,7 +379,7 @@ pub fn choose<'a>(program: &'a [u32], words: &'a Words, s: Scalars, set: u32) ->
                 &mut fuel,
             ) {
                 Ok(Some(count)) => {
-                    return Some(Choice {
+                    chosen = Some(Choice {
                         bindings: Bindings {
                             values,
                             matched,
@@ -385,6 +387,7 @@ pub fn choose<'a>(program: &'a [u32], words: &'a Words, s: Scalars, set: u32) ->
                         },
                         rule,
                     });
+                    break 'rules;
                 }
                 Ok(None) => {}
                 Err(GaveUp) => {
@@ -401,7 +404,7 @@ pub fn choose<'a>(program: &'a [u32], words: &'a Words, s: Scalars, set: u32) ->
                     ) else {
                         break 'candidates;
                     };
-                    return Some(Choice {
+                    chosen = Some(Choice {
                         bindings: Bindings {
                             values,
                             matched,
@@ -409,6 +412,7 @@ pub fn choose<'a>(program: &'a [u32], words: &'a Words, s: Scalars, set: u32) ->
                         },
                         rule,
                     });
+                    break 'rules;
                 }
             }
             values = before;
@@ -420,5 +424,5 @@ pub fn choose<'a>(program: &'a [u32], words: &'a Words, s: Scalars, set: u32) ->
         number += 1;
         start = end;
     }
-    None
+    chosen
 }

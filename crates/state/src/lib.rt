@@ -324,7 +324,17 @@ pub fn find_atom(words: &Words, atoms: u32, id: u32) -> Option<usize>
     table::find(words, 1, atoms as usize, id)
 }
 
+// The same behind a call, so that a guess that is right costs no more than its look.
+#[inline(never)]
+fn find_far(words: &Words, atoms: u32, id: u32) -> Option<usize>
+    requires { (atoms ≤ 256) × AtomsRise atoms words.now }
+    ensures { PlaceOf atoms id (atom_ids_of atoms words.now) result }
+{
+    find_atom(words, atoms, id)
+}
+
 // The same by a guess: the place that is guessed and the one behind it are looked at first. Any guess gives the same answer.
+#[inline(always)]
 #[tactic(auto, using(crate::proofs::Near::near_is))]
 pub fn find_near(words: &Words, atoms: u32, id: u32, guess: usize) -> Option<usize>
     requires { (atoms ≤ 256) × AtomsRise atoms words.now }
@@ -332,19 +342,19 @@ pub fn find_near(words: &Words, atoms: u32, id: u32, guess: usize) -> Option<usi
 {
     let n = atoms as usize;
     if n <= guess {
-        return find_atom(words, atoms, id);
+        return find_far(words, atoms, id);
     }
     if words[guess] == id {
         return Some(guess);
     }
     let next = guess + 1;
     if n <= next {
-        return find_atom(words, atoms, id);
+        return find_far(words, atoms, id);
     }
     if words[next] == id {
         return Some(next);
     }
-    find_atom(words, atoms, id)
+    find_far(words, atoms, id)
 }
 
 // No atom has this id, by a guess of the atom before it.

@@ -19,52 +19,53 @@ use Rattle.matching.proofs.Firing.{parts, parts_rise, located, chosen_here, reas
 use Rattle.matching.proofs.choose.Goals as goal
 use Rattle.matching.proofs.choose.Goals.{in-Some+in-Err+in_default-search_on, in-Some+in-Ok-None+then-once, in_default}
 
-pub loop-start-init : goal.loop-start-init
-loop-start-init c = (record { positive = omega arith; bound = c.first_from-start.ensures; is = fires_all _ _ _ }, refl)
+pub rules-init : goal.rules-init
+rules-init c = (record { positive = omega arith; bound = c.first_from-start.ensures; is = fires_all _ _ _ }, refl, refl)
 
 pub returns-then-r-set-clause-is : goal.returns-then-r-set-clause-is
-returns-then-r-set-clause-is c = choice_ends _ _ _ _ _ _ c.loop-start.invariant.0 c.requires.0 (λ h q. c.if-r-set.true (ap (λ (r : Row). r.set) c.row_at-r.ensures ∙ q))
+returns-then-r-set-clause-is c = rw c.rules.invariant.2 (choice_ends _ _ _ _ _ _ c.rules.invariant.0 c.requires.0 (λ h q. c.if-r-set.true (ap (λ (r : Row). r.set) c.row_at-r.ensures ∙ q)))
 
 pub returns-then-body-start-clause-is : goal.returns-then-body-start-clause-is
 returns-then-body-start-clause-is c =
     let a = c.args in
-    let p = parts c.loop-start.invariant.0.bound c.part_end-context.ensures c.part_end-body.ensures c.part_end-end.ensures in
-    sym (c.loop-start.invariant.0.is
-    ∙ fires_as_it_is a.program.now a.set c.loop-start.number c.loop-start.start c.part_end-context.result c.part_end-body.result c.part_end-end.result p a.words.now a.s (rule_there a.program.now c.requires.0 a.set c.loop-start.number c.loop-start.start c.loop-start.invariant.0.bound c.loop-start-test.true (ap (λ (r : Row). r.set) (sym c.row_at-r.ensures) ∙ c.if-r-set.false)) c.if-body-start.true
-    ∙ ap (λ (f : Found). fired c.loop-start.number f ∷ []) (sym c.nothing-f.ensures.0))
+    let p = parts c.rules.invariant.0.bound c.part_end-context.ensures c.part_end-body.ensures c.part_end-end.ensures in
+    sym (c.rules.invariant.0.is
+    ∙ fires_as_it_is a.program.now a.set c.rules.number c.rules.start c.part_end-context.result c.part_end-body.result c.part_end-end.result p a.words.now a.s (rule_there a.program.now c.requires.0 a.set c.rules.number c.rules.start c.rules.invariant.0.bound c.rules-test.true (ap (λ (r : Row). r.set) (sym c.row_at-r.ensures) ∙ c.if-r-set.false)) c.if-body-start.true
+    ∙ ap (λ (f : Found). fired c.rules.number f ∷ []) (sym c.nothing-f.ensures.0))
 
 pub returns-then-body-start-clause-chosen : goal.returns-then-body-start-clause-chosen
 returns-then-body-start-clause-chosen c =
     let z = c.nothing-f.ensures.1 in
-    chosen_here _ _ _ _ _ _ _ (parts c.loop-start.invariant.0.bound c.part_end-context.ensures c.part_end-body.ensures c.part_end-end.ensures) c.nothing-f.result (omega arith)
+    chosen_here _ _ _ _ _ _ _ (parts c.rules.invariant.0.bound c.part_end-context.ensures c.part_end-body.ensures c.part_end-end.ensures) c.nothing-f.result (omega arith)
 
 pub candidates-init : goal.candidates-init
 candidates-init c =
     let a = c.args in
-    let p = parts c.loop-start.invariant.0.bound c.part_end-context.ensures c.part_end-body.ensures c.part_end-end.ensures in
+    let p = parts c.rules.invariant.0.bound c.part_end-context.ensures c.part_end-body.ensures c.part_end-end.ensures in
     let z : found_in c.nothing-f.result.values [] 0 ≡ nothing_found = sym (ap (λ (n : ℕ). found_in c.nothing-f.result.values c.nothing-f.result.matched n) c.nothing-f.ensures.1) ∙ c.nothing-f.ensures.0 in (
       record {
         at_first = λ _. refl;
-        is = c.loop-start.invariant.0.is
-            ∙ ap first_of (fires_by_answers a.program.now a.set c.loop-start.number c.loop-start.start c.part_end-context.result c.part_end-body.result c.part_end-end.result p a.words.now a.s
-            (rule_there a.program.now c.requires.0 a.set c.loop-start.number c.loop-start.start c.loop-start.invariant.0.bound c.loop-start-test.true (ap (λ (r : Row). r.set) (sym c.row_at-r.ensures) ∙ c.if-r-set.false)) c.if-body-start.false c.row_at-r.result c.row_at-r.ensures (found_in c.nothing-f.result.values [] 0) z);
+        is = c.rules.invariant.0.is
+            ∙ ap first_of (fires_by_answers a.program.now a.set c.rules.number c.rules.start c.part_end-context.result c.part_end-body.result c.part_end-end.result p a.words.now a.s
+            (rule_there a.program.now c.requires.0 a.set c.rules.number c.rules.start c.rules.invariant.0.bound c.rules-test.true (ap (λ (r : Row). r.set) (sym c.row_at-r.ensures) ∙ c.if-r-set.false)) c.if-body-start.false c.row_at-r.result c.row_at-r.ensures (found_in c.nothing-f.result.values [] 0) z);
       },
-      c.loop-start.invariant.1,
+      c.rules.invariant.1,
+      c.rules.invariant.2,
     )
 
 pub next_answer-requires : goal.next_answer-requires
 next_answer-requires c =
     let a = c.args in
-    let p = parts c.loop-start.invariant.0.bound c.part_end-context.ensures c.part_end-body.ensures c.part_end-end.ensures in
-    let n = reasons_next a.program.now c.loop-start.start c.part_end-body.result c.if-body-start.false c.row_at-r.result c.row_at-r.ensures in
+    let p = parts c.rules.invariant.0.bound c.part_end-context.ensures c.part_end-body.ensures c.part_end-end.ensures in
+    let n = reasons_next a.program.now c.rules.start c.part_end-body.result c.if-body-start.false c.row_at-r.result c.row_at-r.ensures in
     let m = reasons_few _ _ _ _ _ _ _ p c.requires.0 in
     (c.requires.1, omega arith, c.candidates.invariant.1)
 
 pub search-requires : goal.search-requires
 search-requires c =
     let a = c.args in
-    let p = parts c.loop-start.invariant.0.bound c.part_end-context.ensures c.part_end-body.ensures c.part_end-end.ensures in
-    let n = reasons_next a.program.now c.loop-start.start c.part_end-body.result c.if-body-start.false c.row_at-r.result c.row_at-r.ensures in
+    let p = parts c.rules.invariant.0.bound c.part_end-context.ensures c.part_end-body.ensures c.part_end-end.ensures in
+    let n = reasons_next a.program.now c.rules.start c.part_end-body.result c.if-body-start.false c.row_at-r.result c.row_at-r.ensures in
     let m = reasons_few _ _ _ _ _ _ _ p c.requires.0 in
     let k = ids_few c.row_at-r.result in
     let e = c.given_ids-ids.ensures in
@@ -80,21 +81,21 @@ returns-in-Ok-Some-clause-is c =
 
 pub returns-in-Ok-Some-clause-chosen : goal.returns-in-Ok-Some-clause-chosen
 returns-in-Ok-Some-clause-chosen c =
-    chosen_here _ _ _ _ _ _ _ (parts c.loop-start.invariant.0.bound c.part_end-context.ensures c.part_end-body.ensures c.part_end-end.ensures) _
+    chosen_here _ _ _ _ _ _ _ (parts c.rules.invariant.0.bound c.part_end-context.ensures c.part_end-body.ensures c.part_end-end.ensures) _
     (rw c.in-Ok-Some.field-0-is at c.in-Ok-Some.ensures.is.few)
 
 pub search_on-requires : goal.search_on-requires
 search_on-requires c =
-    let p = parts c.loop-start.invariant.0.bound c.part_end-context.ensures c.part_end-body.ensures c.part_end-end.ensures in
+    let p = parts c.rules.invariant.0.bound c.part_end-context.ensures c.part_end-body.ensures c.part_end-end.ensures in
     let v = c.candidates.invariant in
     (located _ _ _ _ _ _ _ p, c.requires.1, c.if-body-start.false, reasons_few _ _ _ _ _ _ _ p c.requires.0)
 
-pub returns-in-Err-clause-is : goal.returns-in-Err-clause-is
-returns-in-Err-clause-is c = rest_one c.candidates.invariant.0 c.row_at-r.ensures _ c.in-Some-search_on.ensures.is.is refl
+pub returns-in-Some-search_on-clause-is : goal.returns-in-Some-search_on-clause-is
+returns-in-Some-search_on-clause-is c = rest_one c.candidates.invariant.0 c.row_at-r.ensures _ c.in-Some-search_on.ensures.is.is refl
 
-pub returns-in-Err-clause-chosen : goal.returns-in-Err-clause-chosen
-returns-in-Err-clause-chosen c =
-    chosen_here _ _ _ _ _ _ _ (parts c.loop-start.invariant.0.bound c.part_end-context.ensures c.part_end-body.ensures c.part_end-end.ensures) _ c.in-Some-search_on.ensures.is.few
+pub returns-in-Some-search_on-clause-chosen : goal.returns-in-Some-search_on-clause-chosen
+returns-in-Some-search_on-clause-chosen c =
+    chosen_here _ _ _ _ _ _ _ (parts c.rules.invariant.0.bound c.part_end-context.ensures c.part_end-body.ensures c.part_end-end.ensures) _ c.in-Some-search_on.ensures.is.few
 
 pub candidates-preserved : goal.candidates-preserved
 candidates-preserved c =
@@ -108,23 +109,24 @@ candidates-preserved c =
         is = backed _ _ _ v.0.is _ _ one _ (firing_first _ _ _ _ _ _ _ none) refl;
       },
       refl,
+      v.2,
     )
 
 pub overflow_add-number : goal.overflow_add-number
 overflow_add-number c =
-    let h = rule_small c.args.program.now c.requires.0 c.args.set c.loop-start.number c.loop-start.start c.loop-start.invariant.0.bound c.loop-start-test.true (ap (λ (r : Row). r.set) (sym c.row_at-r.ensures) ∙ c.if-r-set.false) c.loop-start.invariant.0.positive in
+    let h = rule_small c.args.program.now c.requires.0 c.args.set c.rules.number c.rules.start c.rules.invariant.0.bound c.rules-test.true (ap (λ (r : Row). r.set) (sym c.row_at-r.ensures) ∙ c.if-r-set.false) c.rules.invariant.0.positive in
     omega arith
 
-pub loop-start-smaller : goal.loop-start-smaller
-loop-start-smaller c =
-    let p = parts c.loop-start.invariant.0.bound c.part_end-context.ensures c.part_end-body.ensures c.part_end-end.ensures in
+pub rules-smaller : goal.rules-smaller
+rules-smaller c =
+    let p = parts c.rules.invariant.0.bound c.part_end-context.ensures c.part_end-body.ensures c.part_end-end.ensures in
     let r = (parts_rise _ _ _ _ _ _ _ p).2 in
     let h = c.if-body-start.false in
-    let l = c.loop-start-test.true in
+    let l = c.rules-test.true in
     omega arith
 
-pub loop-start-preserved : goal.loop-start-preserved
-loop-start-preserved c =
+pub rules-preserved : goal.rules-preserved
+rules-preserved c =
     let a = c.args in
     let r = c.row_at-r.result in
     let f : Found = found_in c.nothing-f.result.values [] 0 in
@@ -132,7 +134,7 @@ loop-start-preserved c =
     let n = c.next_answer.ensures in (
       record {
         positive = omega arith;
-        bound = next_rule a.program.now c.requires.0 a.set c.loop-start.number c.part_end-end.result c.part_end-end.ensures;
+        bound = next_rule a.program.now c.requires.0 a.set c.rules.number c.part_end-end.result c.part_end-end.ensures;
         is = elim c.match-next_answer.branch [
           | in-Some+in-Err+in_default-search_on w ↦ rest_none v.0 c.row_at-r.ensures [] w.in_default-search_on.ensures.is.is refl
           | in-Some+in-Ok-None+then-once w ↦
@@ -150,7 +152,8 @@ loop-start-preserved c =
         | in-Some+in-Ok-None+then-once w ↦ w.values-is
         | in_default w ↦ w.values-is ∙ w.in_default.ensures.back refl
       ],
+      v.2,
     )
 
-pub returns-clause-is : goal.returns-clause-is
-returns-clause-is c = choice_ends _ _ _ _ _ _ c.loop-start.invariant.0 c.requires.0 (λ h. absurd (omega (arith, c.loop-start-test.false)))
+pub returns-after-rules-clause-is : goal.returns-after-rules-clause-is
+returns-after-rules-clause-is c = rw c.rules.invariant.2 (choice_ends _ _ _ _ _ _ c.rules.invariant.0 c.requires.0 (λ h. absurd (omega (arith, c.rules-test.false))))
